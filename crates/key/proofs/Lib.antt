@@ -1,0 +1,2 @@
+-- The laws of `key`, for the proofs of its callers.
+pub mod Laws

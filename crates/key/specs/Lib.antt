@@ -1,0 +1,2 @@
+-- What the contracts of `key` cite.
+pub mod Key

@@ -1,0 +1,35 @@
+-- Sound stores.
+--   CardFacts    free, live, frozen
+--   Changes      what stands where in a store with one part changed
+--   Sound        a sound store, in the form that the proofs use
+--   SoundRules   a store is sound exactly if it keeps the rules as they are tested
+--   TableLaws    the laws of `table`, in the words of the theory
+--   Facts        what soundness tells of a place in a list, of a table and of a link
+--   Frame        what is not touched stays as it is
+--   Naming       which places are named by links
+--   Places       the place taken is free
+--   Written      what writing tables to places leaves
+--   Hang         what hanging links leaves
+--   Release      what releasing frozen places leaves
+--   Spans        what is read of a table lies in its span; spans rise
+--   Order        the read order in its parts
+--   ReadOrder    what is read is valid
+--   TakenOut     a level with one table taken out and read after it
+--   New          a new store is sound
+pub mod CardFacts
+pub mod Changes
+pub mod Sound
+pub mod SoundRules
+pub mod TableLaws
+pub mod Facts
+pub mod Frame
+pub mod Naming
+pub mod Places
+pub mod Written
+pub mod Hang
+pub mod Release
+pub mod Spans
+pub mod Order
+pub mod ReadOrder
+pub mod TakenOut
+pub mod New

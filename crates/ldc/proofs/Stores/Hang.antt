@@ -1,0 +1,108 @@
+-- What hanging links leaves: each table has its old links and behind them those that were hung on it; all else is as it was.
+-- By induction on the links that are hung.
+use Prim.Native.Nat.{ℕ}
+use mathlib.Core.Path.{_≡_, refl, sym, _∙_, ap}
+use mathlib.Core.List.{List, [], _∷_, _++_, map, append-assoc, append-nil, List·Memᴰ, List·Memᴰ·head, List·Memᴰ·tail}
+use mathlib.Core.Bool.{Bool, true}
+use borrow.Author.Tests.{eqb-true, eqb-false}
+use lib.Dec.{eqb}
+use Rattle.ldc.specs.Lists.{keep}
+use Rattle.ldc.specs.Store.{Link, Card, live, Store, size, card, links, linksOf, isLive, withCard}
+use Rattle.ldc.specs.Tidy.{Slice}
+use Rattle.ldc.specs.Steps.{hang}
+use Rattle.ldc.proofs.Basics.Cases.{cases}
+use Rattle.ldc.proofs.Stores.CardFacts.{live-not-free, live-links}
+use Rattle.ldc.proofs.Stores.Changes.{card-same, card-other, below-size, size-withCard}
+
+abbrev pub linkOf : Slice → Link
+linkOf r = record { place = r .place; low = r .low; high = r .high }
+
+-- The links among these that are hung on a table.
+abbrev pub gains : ℕ → List Slice → List Link
+gains q rs = map linkOf (keep (λ r. eqb (r .on) q) rs)
+
+-- The tables that links are hung on are live.
+abbrev pub OnLive : Store → List Slice → Type 0
+OnLive s rs = (r : Slice) → List·Memᴰ r rs → isLive (card s (r .on)) ≡ true
+
+-- ---- one link
+
+module _ (r : Slice) (s : Store) (h : isLive (card s (r .on)) ≡ true) where
+  hung : Store
+  hung = withCard (r .on) (live (links s (r .on) ++ (linkOf r ∷ []))) s
+
+  hung-card : card hung (r .on) ≡ live (links s (r .on) ++ (linkOf r ∷ []))
+  unfolding hung
+  hung-card = card-same s (r .on) (live (links s (r .on) ++ (linkOf r ∷ []))) (below-size s (r .on) (live-not-free (card s (r .on)) h))
+
+  hung-other : (q : ℕ) → (q ≡ r .on → ⊥) → card hung q ≡ card s q
+  unfolding hung
+  hung-other q d = card-other s (r .on) (live (links s (r .on) ++ (linkOf r ∷ []))) q d
+
+  -- a test that asks only whether a card is free, live or frozen
+  hung-kind : (test : Card → Bool) → ((xs ys : List Link) → test (live xs) ≡ test (live ys)) → (q : ℕ) → test (card hung q) ≡ test (card s q)
+  hung-kind test same q =
+      cases (eqb q (r .on))
+      (λ e. let qe : q ≡ r .on = eqb-true q (r .on) e in
+      rw (qe, hung-card) (same (links s (r .on) ++ (linkOf r ∷ [])) (linksOf (card s (r .on))) ∙ ap test (sym (live-links (card s (r .on)) h))))
+      (λ e. ap test (hung-other q (eqb-false q (r .on) e)))
+
+  hung-links : (q : ℕ) (rs : List Slice) → links hung q ++ gains q rs ≡ links s q ++ gains q (r ∷ rs)
+  unfolding links
+  hung-links q rs =
+      cases (eqb (r .on) q)
+      (λ e. let qe : r .on ≡ q = eqb-true (r .on) q e in
+      rw (e, ← qe, hung-card) (append-assoc (links s (r .on)) (linkOf r ∷ []) (gains (r .on) rs)))
+      (λ e. rw (e, hung-other q (λ d. eqb-false (r .on) q e (sym d))))
+
+-- ---- all of them
+
+pub hang-kind : (test : Card → Bool) → ((xs ys : List Link) → test (live xs) ≡ test (live ys))
+    → (rs : List Slice) (s : Store) → OnLive s rs → (q : ℕ) → test (card (hang rs s) q) ≡ test (card s q)
+unfolding hung
+hang-kind test same [] s o q = refl
+hang-kind test same (r ∷ rs) s o q =
+    let h = o r (List·Memᴰ·head refl) in
+    hang-kind test same rs (hung r s h) (λ x m. hung-kind r s h isLive (λ _ _. refl) (x .on) ∙ o x (List·Memᴰ·tail m)) q
+    ∙ hung-kind r s h test same q
+
+pub hang-links : (rs : List Slice) (s : Store) → OnLive s rs → (q : ℕ) → links (hang rs s) q ≡ links s q ++ gains q rs
+unfolding hung
+hang-links [] s o q = sym (append-nil (links s q))
+hang-links (r ∷ rs) s o q =
+    let h = o r (List·Memᴰ·head refl) in
+    hang-links rs (hung r s h) (λ x m. hung-kind r s h isLive (λ _ _. refl) (x .on) ∙ o x (List·Memᴰ·tail m)) q
+    ∙ hung-links r s h q rs
+
+-- What is not a card is untouched.
+pub record Beside (s s′ : Store) : Type 0 where
+  pub same-size : size s′ ≡ size s
+  pub same-places : s′ .places ≡ s .places
+  pub same-levels : s′ .levels ≡ s .levels
+  pub same-marks : s′ .marks ≡ s .marks
+  pub same-threshold : s′ .threshold ≡ s .threshold
+  pub same-cursor : s′ .cursor ≡ s .cursor
+  pub same-memory : s′ .memory ≡ s .memory
+
+pub hang-beside : (rs : List Slice) (s : Store) → Beside s (hang rs s)
+hang-beside [] s = record {
+  same-size = refl;
+  same-places = refl;
+  same-levels = refl;
+  same-marks = refl;
+  same-threshold = refl;
+  same-cursor = refl;
+  same-memory = refl;
+}
+hang-beside (r ∷ rs) s =
+    let c : Card = live (links s (r .on) ++ (linkOf r ∷ [])) in
+    let b = hang-beside rs (withCard (r .on) c s) in
+    record {
+      same-size = b .same-size ∙ size-withCard s (r .on) c;
+      same-places = b .same-places;
+      same-levels = b .same-levels;
+      same-marks = b .same-marks;
+      same-threshold = b .same-threshold;
+      same-cursor = b .same-cursor;
+      same-memory = b .same-memory;
+    }

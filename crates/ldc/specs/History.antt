@@ -1,0 +1,146 @@
+-- What demand 3 is measured by (document 01): a history of runs, the latest-write map, and the slice list.
+use Prim.Native.Nat.{ℕ, zero, suc, _+_, _≤_, _<_}
+use mathlib.Core.Path.{_≡_}
+use mathlib.Core.List.{List, [], _∷_, _++_, map, List·Memᴰ}
+use mathlib.Core.Bool.{true, cond, not, _&&_}
+use mathlib.Core.Option.{Option, some, none, Option·getD}
+use lib.Dec.{leb, eqb}
+use lib.ListN.{length, take, drop}
+use Rattle.number.specs.Number.{numberAt}
+use Rattle.table.specs.Entry.{Entry, lengthAt}
+use Rattle.table.specs.Search.{find}
+use Rattle.ldc.specs.Lists.{any, keep}
+use Rattle.ldc.specs.Store.{Link, Store, newStore, card, links, isLive, isFrozen, bytesAt, within}
+use Rattle.ldc.specs.Lent.{Lent, storeOf, placesIn}
+use Rattle.ldc.specs.Request.{Request, replyBytes, keyIn, highIn, valueIn}
+use Rattle.ldc.specs.Memtable.{put}
+use Rattle.ldc.specs.Read.{valueOf, scanBody}
+use Rattle.ldc.specs.Tidy.{Slice, Step, idle, refused, moved, linked, merged, tidyStep}
+use Rattle.ldc.specs.Serve.{serve}
+use Rattle.ldc.specs.Run.{Outcome, run, split, make}
+
+-- ---- a history: runs from a store made anew
+
+-- A run's request list and answer buffer.
+pub record Call : Type 0 where
+  pub list : List ℕ
+  pub answer : List ℕ
+
+-- A request served, with its reply.
+pub record Event : Type 0 where
+  pub request : Request
+  pub reply : List ℕ
+
+-- The replies that stand in an answer buffer, one behind the other.
+abbrev pub repliesAt : (n : ℕ) → List ℕ → (at : ℕ) → List (List ℕ)
+repliesAt zero bytes at = []
+repliesAt (suc n) bytes at = take (lengthAt bytes at) (drop at bytes) ∷ repliesAt n bytes (at + lengthAt bytes at)
+
+-- Requests with their replies; those behind a stop have none, and are not among them.
+abbrev pub paired : List Request → List (List ℕ) → List Event
+paired [] replies = []
+paired (r ∷ rs) [] = []
+paired (r ∷ rs) (b ∷ bs) = record { request = r; reply = b } ∷ paired rs bs
+
+-- The requests that a run served. A refused run serves none.
+unfoldable pub eventsOf : List ℕ → Outcome → List Event
+eventsOf list o = paired (Option·getD (split list) []) (repliesAt (o .served) (o .answer) 0)
+
+-- Each run gets the area and book as the run before left them.
+abbrev pub lentAfter : Lent → List Call → Lent
+lentAfter m [] = m
+lentAfter m (c ∷ cs) = lentAfter (run m (c .list) (c .answer) .lent) cs
+
+-- The requests served in all runs, in order.
+abbrev pub events : Lent → List Call → List Event
+events m [] = []
+events m (c ∷ cs) = eventsOf (c .list) (run m (c .list) (c .answer)) ++ events (run m (c .list) (c .answer) .lent) cs
+
+-- ---- the latest-write map
+
+-- Values under keys, as entries, keys rising. It is fed the requests and, for puts and deletes alone, the result in the reply.
+unfoldable pub resultIn : List ℕ → ℕ
+resultIn reply = numberAt 2 reply 4
+
+unfoldable pub fed : Event → List Entry → List Entry
+fed e m =
+    cond (eqb (e .request .kind) 1 && eqb (resultIn (e .reply)) 0)
+    (put (record { key = keyIn (e .request .body); value = some (valueIn (e .request .body)) }) m)
+    (cond (eqb (e .request .kind) 2 && eqb (resultIn (e .reply)) 0)
+    (keep (λ x. not (eqb (x .key) (keyIn (e .request .body)))) m)
+    m)
+
+-- The reply that the map gives to a look-up: 0 and the value, or 64.
+abbrev pub mapLookUp : Option (List ℕ) → List ℕ
+mapLookUp (some v) = replyBytes 3 0 v
+mapLookUp none = replyBytes 3 64 []
+
+-- The reply that the map gives: to look-ups and scans of the right length, low not above high. It says nothing of other requests.
+unfoldable pub mapReply : List Entry → Request → Option (List ℕ)
+mapReply m r =
+    cond (eqb (r .kind) 3 && eqb (length (r .body)) 8)
+    (some (mapLookUp (valueOf (find (keyIn (r .body)) m))))
+    (cond (eqb (r .kind) 4 && (eqb (length (r .body)) 16 && leb (keyIn (r .body)) (highIn (r .body))))
+    (some (replyBytes 4 0 (scanBody (within (keyIn (r .body)) (highIn (r .body)) m))))
+    none)
+
+abbrev pub Agrees : Option (List ℕ) → List ℕ → Type 0
+Agrees none reply = Unit {0}
+Agrees (some right) reply = reply ≡ right
+
+-- Every reply is the one that the map then gives, byte for byte.
+abbrev pub Answered : List Entry → List Event → Type 0
+Answered m [] = Unit {0}
+Answered m (e ∷ es) = Agrees (mapReply m (e .request)) (e .reply) × Answered (fed e m) es
+
+-- ---- the slice list
+
+-- A slice that has not been merged yet, with the bytes that its place held when it was linked.
+pub record Unmerged : Type 0 where
+  pub slice : Slice
+  pub held : List ℕ
+
+-- The step that a request does.
+unfoldable pub stepOf : Store → Request → Step
+stepOf s r = cond (eqb (r .kind) 6 && eqb (length (r .body)) 0) (tidyStep s) idle
+
+-- A link adds each link that it makes. A merge takes away all that hang on the merged table's place. Nothing else changes the list.
+abbrev pub afterStep : Store → Step → List Unmerged → List Unmerged
+afterStep s idle us = us
+afterStep s refused us = us
+afterStep s (moved n p) us = us
+afterStep s (linked n p slices) us = us ++ map (λ x. record { slice = x; held = bytesAt s p }) slices
+afterStep s (merged n p) us = keep (λ u. not (eqb (u .slice .on) p)) us
+
+-- The rules worked through a list of requests, from a store on.
+abbrev pub unmerged : Store → List Unmerged → List Request → List Unmerged
+unmerged s us [] = us
+unmerged s us (r ∷ rs) = unmerged (serve s r .store) (afterStep s (stepOf s r) us) rs
+
+-- ---- demand 3
+
+abbrev pub requestsIn : List Event → List Request
+requestsIn [] = []
+requestsIn (e ∷ es) = e .request ∷ requestsIn es
+
+abbrev pub linkOf : Unmerged → Link
+linkOf u = record { place = u .slice .place; low = u .slice .low; high = u .slice .high }
+
+-- The claim about the replies and the memory at the end of a history, given the slice list: `m` is what is lent at the end.
+pub record Holds (m : Lent) (threshold : ℕ) (es : List Event) (us : List Unmerged) : Type 0 where
+  -- look-ups and scans answer as the latest-write map
+  pub answered : Answered [] es
+  -- a card says frozen exactly if the list names the place
+  pub frozen : (p : ℕ) → p < placesIn (m .area) → isFrozen (card (storeOf m) p) ≡ any (λ u. eqb (u .slice .place) p) us
+  -- a frozen place has the bytes that it held when linked
+  pub kept : (u : Unmerged) → List·Memᴰ u us → bytesAt (storeOf m) (u .slice .place) ≡ u .held
+  -- a table's links are the slices that hang on its place, oldest first, and never more than T
+  pub carried : (p : ℕ) → isLive (card (storeOf m) p) ≡ true → links (storeOf m) p ≡ map linkOf (keep (λ u. eqb (u .slice .on) p) us)
+  pub few : (p : ℕ) → length (links (storeOf m) p) ≤ threshold
+
+-- Demand 3 of the history that begins with making a store over `m` with threshold `t`. The slice list is worked out over other places,
+-- as many, with any bytes: nothing of it is read from the store that was run.
+unfoldable pub Demand3 : (m : Lent) → (t : ℕ) → List Call → (places : List (List ℕ)) → Type 0
+Demand3 m t calls places =
+    Holds (lentAfter (make m t .lent) calls) t (events (make m t .lent) calls)
+    (unmerged (newStore t places) [] (requestsIn (events (make m t .lent) calls)))

@@ -1,0 +1,29 @@
+-- Document 01, in its order. What a reader of the store must believe stands here and in the formats of `table`.
+--   Lists      small functions on lists
+--   Store      links, cards, the store, a new store, spans, what is to be read of a table
+--   Rules      a sound store: rules A to G as far as they speak of the store
+--   Lent       the lent bytes and numbers; the store that they show; numbers 1 and 5, and the letters of the broken rules
+--   Request    requests and replies: kinds, body lengths, bytes
+--   Memtable   put and delete
+--   Place      the place taken, tables written, flush
+--   Read       the read order, look-up, scan, report
+--   Tidy       which step is due: due merge, level, choice, ranges; the step is named here
+--   Steps      the named step is done: move, link, merge
+--   Serve      serving one request
+--   Run        splitting a list, serving it, run, check and make, with numbers 1 to 5
+--   History    histories, the latest-write map, the slice list, and `Demand3`
+--   Examples   P1 to P10
+pub mod Lists
+pub mod Store
+pub mod Rules
+pub mod Lent
+pub mod Request
+pub mod Memtable
+pub mod Place
+pub mod Read
+pub mod Tidy
+pub mod Steps
+pub mod Serve
+pub mod Run
+pub mod History
+pub mod Examples

@@ -1,0 +1,72 @@
+-- Tidy: the named step is done. Move, link and merge, and what each leaves.
+use Prim.Native.Nat.{ℕ, zero, suc}
+use mathlib.Core.List.{List, [], _∷_, _++_, map}
+use mathlib.Core.Bool.{cond}
+use mathlib.Core.Option.{Option, some}
+use lib.Dec.{eqb}
+use lib.ListN.{set}
+use Rattle.number.specs.Number.{bytesOf}
+use Rattle.table.specs.Search.{greatestKey}
+use Rattle.ldc.specs.Store.{free, live, frozen, Store, level, links, table, withCard, withLevel, withMarks}
+use Rattle.ldc.specs.Rules.{named}
+use Rattle.ldc.specs.Request.{Served, done, only}
+use Rattle.ldc.specs.Place.{writtenAll, placesTaken}
+use Rattle.ldc.specs.Tidy.{Slice, Step, idle, refused, moved, linked, merged, mergedTables, tidyStep}
+
+-- A list with one item replaced by several; by none, it is taken out.
+abbrev pub replaced : (item : ℕ) → (by : List ℕ) → List ℕ → List ℕ
+replaced p qs [] = []
+replaced p qs (x ∷ xs) = cond (eqb x p) (qs ++ xs) (x ∷ replaced p qs xs)
+
+-- The mark of level 1 or 2 becomes the chosen table's greatest own key. Level 0 has none.
+abbrev pub marksAfter : (level place : ℕ) → Store → List (Option ℕ)
+marksAfter zero p s = s .marks
+marksAfter (suc n) p s = set (s .marks) n (some (greatestKey (table s p)))
+
+-- The chosen table leaves its level.
+unfoldable pub leaves : (level place : ℕ) → Store → Store
+leaves n p s = withLevel n (replaced p [] (level s n)) (withMarks (marksAfter n p s) s)
+
+-- Move: the chosen table joins the next level, which is empty.
+unfoldable pub doMove : (level place : ℕ) → Store → Store
+doMove n p s = withLevel (suc n) (p ∷ []) (leaves n p s)
+
+-- Link: each table below that is responsible for an entry gains a link, the newest; the chosen table is frozen.
+abbrev pub hang : List Slice → Store → Store
+hang [] s = s
+hang (r ∷ rs) s =
+    hang rs (withCard (r .on) (live (links s (r .on) ++ (record { place = r .place; low = r .low; high = r .high } ∷ []))) s)
+
+unfoldable pub doLink : (level place : ℕ) → List Slice → Store → Store
+doLink n p slices s = hang slices (withCard p frozen (leaves n p s))
+
+-- Of these places those that no link names any more are freed.
+abbrev pub release : List ℕ → Store → Store
+release [] s = s
+release (f ∷ fs) s = release fs (cond (named s f) s (withCard f free s))
+
+-- Merge: the new tables take the old one's place in its list; then it, and every frozen table left without links, is freed.
+unfoldable pub doMerge : (level place : ℕ) → Store → Store
+doMerge n p s =
+    release (map (λ l. l .place) (links s p))
+    (withCard p free
+    (withLevel n (replaced p (placesTaken (mergedTables s n p) s) (level s n))
+    (writtenAll (mergedTables s n p) s)))
+
+abbrev pub doStep : Step → Store → Store
+doStep idle s = s
+doStep refused s = s
+doStep (moved n p) s = doMove n p s
+doStep (linked n p slices) s = doLink n p slices s
+doStep (merged n p) s = doMerge n p s
+
+-- Step (2 bytes: 1 moved, 2 linked, 3 merged), level (2).
+abbrev pub stepServed : Step → Store → Served
+stepServed idle s = only 65 s
+stepServed refused s = only 20 s
+stepServed (moved n p) s = done (doMove n p s) (bytesOf 2 1 ++ bytesOf 2 n)
+stepServed (linked n p slices) s = done (doLink n p slices s) (bytesOf 2 2 ++ bytesOf 2 n)
+stepServed (merged n p) s = done (doMerge n p s) (bytesOf 2 3 ++ bytesOf 2 n)
+
+unfoldable pub serveTidy : Store → Served
+serveTidy s = stepServed (tidyStep s) s

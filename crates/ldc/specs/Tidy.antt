@@ -1,0 +1,162 @@
+-- Tidy: what step is due. It is named first and done afterwards (`Step`); reply, store and slice list come from that one name.
+use Prim.Native.Nat.{ℕ, zero, suc, _*_, _^_, _-_}
+use mathlib.Core.List.{List, [], _∷_, _++_, map}
+use mathlib.Core.Bool.{Bool, true, cond, not}
+use mathlib.Core.Option.{Option, some, none}
+use lib.Dec.{leb, ltb, eqb}
+use lib.ListN.{length, getD, take, drop}
+use Rattle.table.specs.Limits.{tableLimit}
+use Rattle.table.specs.Entry.{Entry}
+use Rattle.table.specs.Search.{leastKey}
+use Rattle.ldc.specs.Lists.{keep, first, isEmpty}
+use Rattle.ldc.specs.Store.{Store, level, links, table, mark, sources, spanEnd, within}
+use Rattle.ldc.specs.Read.{gather, holdsValue}
+use Rattle.ldc.specs.Place.{freePlaces}
+
+-- A slice: a frozen place, the place of the table that it hangs on, and its range.
+pub record Slice : Type 0 where
+  pub place : ℕ
+  pub on : ℕ
+  pub low : ℕ
+  pub high : ℕ
+
+-- What a tidy does; level and place are those of the chosen or merged table before the step.
+pub data Step : Type 0 where
+  idle : Step
+  refused : Step
+  moved : (level place : ℕ) → Step
+  linked : (level place : ℕ) → List Slice → Step
+  merged : (level place : ℕ) → Step
+
+-- ---- merge: what comes out
+
+-- Does a merge on this level drop this delete mark?
+unfoldable pub dropsMark : (level : ℕ) → Entry → Bool
+dropsMark n e = eqb n 3
+
+-- The table's entries and those in its links' ranges, one for each key, the newer winning, without the marks that are dropped.
+unfoldable pub mergedEntries : Store → (level place : ℕ) → List Entry
+mergedEntries s n p = keep (λ e. cond (holdsValue e) true (not (dropsMark n e))) (gather (sources s p))
+
+-- Cut into tables of 16, the last shorter. (The first number only bounds how many tables there can be.)
+abbrev pub cutIn : ℕ → List Entry → List (List Entry)
+cutIn zero es = []
+cutIn (suc n) [] = []
+cutIn (suc n) (e ∷ es) = take tableLimit (e ∷ es) ∷ cutIn n (drop tableLimit (e ∷ es))
+
+unfoldable pub cut : List Entry → List (List Entry)
+cut es = cutIn (length es) es
+
+unfoldable pub mergedTables : Store → (level place : ℕ) → List (List Entry)
+mergedTables s n p = cut (mergedEntries s n p)
+
+-- Number 20: free places fewer than the merge writes; those that it will free don't count.
+unfoldable pub mergeStep : Store → (level place : ℕ) → Step
+mergeStep s n p = cond (leb (length (mergedTables s n p)) (freePlaces s)) (merged n p) refused
+
+-- ---- the due merge
+
+-- Is this table's merge due?
+unfoldable pub due : Store → ℕ → Bool
+due s p = leb (s .threshold) (length (links s p))
+
+-- A level and a place on it.
+pub record Spot : Type 0 where
+  pub on : ℕ
+  pub place : ℕ
+
+-- The due table of the lowest of these levels, and there of the lowest keys.
+abbrev pub spotOr : (level : ℕ) → Option ℕ → Option Spot → Option Spot
+spotOr n (some p) other = some (record { on = n; place = p })
+spotOr n none other = other
+
+abbrev pub dueIn : Store → List ℕ → Option Spot
+dueIn s [] = none
+dueIn s (n ∷ ns) = spotOr n (first (due s) (level s n)) (dueIn s ns)
+
+unfoldable pub dueTable : Store → Option Spot
+dueTable s = dueIn s (1 ∷ 2 ∷ 3 ∷ [])
+
+-- ---- the level
+
+-- Capacities of levels 0, 1 and 2, in live tables.
+unfoldable pub capacity : ℕ → ℕ
+capacity n = getD (2 ∷ 8 ∷ 32 ∷ []) n 0
+
+-- Is the second level fuller than the first, by live tables over capacity?
+unfoldable pub fuller : (live : ℕ → ℕ) → (n m : ℕ) → Bool
+fuller live n m = ltb (live n * capacity m) (live m * capacity n)
+
+-- Of two levels the fuller one, of equals the first.
+abbrev pub prefer : (live : ℕ → ℕ) → ℕ → Option ℕ → ℕ
+prefer live n none = n
+prefer live n (some m) = cond (fuller live n m) m n
+
+-- Of these levels, of those above capacity, the fullest; ties to the lower number.
+abbrev pub fullest : (live : ℕ → ℕ) → List ℕ → Option ℕ
+fullest live [] = none
+fullest live (n ∷ ns) = cond (ltb (capacity n) (live n)) (some (prefer live n (fullest live ns))) (fullest live ns)
+
+unfoldable pub overfull : Store → Option ℕ
+overfull s = fullest (λ n. length (level s n)) (0 ∷ 1 ∷ 2 ∷ [])
+
+-- ---- the choice in a level
+
+-- How many tables stand before the first whose least own key exceeds the mark. No mark: none.
+abbrev pub passed : Store → Option ℕ → List ℕ → ℕ
+passed s none ps = 0
+passed s (some k) [] = 0
+passed s (some k) (p ∷ ps) = cond (ltb k (leastKey (table s p))) 0 (suc (passed s (some k) ps))
+
+-- The level's tables in key order from that one on, going round. Level 0 has no mark: from its oldest on.
+unfoldable pub round : Store → (level : ℕ) → List ℕ
+round s n = drop (passed s (mark s n) (level s n)) (level s n) ++ take (passed s (mark s n) (level s n)) (level s n)
+
+-- ---- link: the ranges
+
+-- The greatest key.
+abbrev pub greatest : ℕ
+greatest = 2 ^ 64 - 1
+
+-- A place with its span's end.
+pub record Reach : Type 0 where
+  pub place : ℕ
+  pub end : ℕ
+
+-- Each table below is responsible from one above the previous span's end (0 for the first) to its own span's end (2^64 - 1 for the last).
+abbrev pub responsible : (frozen from : ℕ) → List Reach → List Slice
+responsible f from [] = []
+responsible f from (r ∷ []) = record { place = f; on = r .place; low = from; high = greatest } ∷ []
+responsible f from (r ∷ q ∷ rs) =
+    record { place = f; on = r .place; low = from; high = r .end } ∷ responsible f (suc (r .end)) (q ∷ rs)
+
+-- Those with at least one of these entries in their range.
+abbrev pub holding : List Entry → List Slice → List Slice
+holding es ranges = keep (λ r. not (isEmpty (within (r .low) (r .high) es))) ranges
+
+unfoldable pub slicesOf : Store → (level place : ℕ) → List Slice
+slicesOf s n p =
+    holding (table s p) (responsible p 0 (map (λ q. record { place = q; end = spanEnd s q }) (level s (suc n))))
+
+-- ---- the step
+
+-- The chosen table moves if the next level is empty, and is linked otherwise.
+unfoldable pub downStep : Store → (level place : ℕ) → Step
+downStep s n p = cond (isEmpty (level s (suc n))) (moved n p) (linked n p (slicesOf s n p))
+
+-- The first table without links is chosen. If all have links, the first of the round is merged instead.
+abbrev pub choiceStep : Store → (level : ℕ) → Option ℕ → Step
+choiceStep s n (some p) = downStep s n p
+choiceStep s n none = mergeStep s n (getD (round s n) 0 0)
+
+abbrev pub levelStep : Store → Option ℕ → Step
+levelStep s none = idle
+levelStep s (some n) = choiceStep s n (first (λ p. isEmpty (links s p)) (round s n))
+
+abbrev pub dueStep : Store → Option Spot → Step
+dueStep s (some d) = mergeStep s (d .on) (d .place)
+dueStep s none = levelStep s (overfull s)
+
+-- A due merge comes first.
+unfoldable pub tidyStep : Store → Step
+tidyStep s = dueStep s (dueTable s)

@@ -1,0 +1,3 @@
+-- The laws of `number`, for the proofs of its callers.
+pub mod Laws
+pub mod Sets

@@ -1,0 +1,2 @@
+-- What the contracts of `number` cite.
+pub mod Number

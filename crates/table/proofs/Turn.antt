@@ -1,0 +1,69 @@
+-- One turn of the loops that judge a table: what is left of a definition, after a byte and after an entry.
+use Prim.Native.Nat.{ℕ, suc, _+_, _-_, _<_}
+use mathlib.Core.Path.{_≡_, refl}
+use mathlib.Core.Bool.{Bool, true, false, cond, _&&_, _||_, and-assoc}
+use mathlib.Core.List.{List}
+use native.Mathlib.Omega.{arith}
+use native.Mathlib.Numerals.{add-one}
+use lib.Dec.{leb, ltb, eqb, leb·zero, eqb·suc-zero}
+use lib.ListN.{length, getD, set, drop}
+use lib.Seq.{sets, drop-cons}
+use Rattle.number.specs.Number.{numberAt}
+use Rattle.table.specs.Limits.{tableHead, tableLimit}
+use Rattle.table.specs.Entry.{lengthAt, kindAt, keyAt, entryForm}
+use Rattle.table.specs.Table.{countOf, zeros, entriesGood, allZero, tableGood}
+use Rattle.table.specs.Search.{seekAt}
+use Rattle.table.specs.declared.search.Found.the-variants.{At}
+
+-- All bytes from i on are zero if the one at i is, and all behind it.
+pub zero-turn : (s : List ℕ) (i : ℕ) → i < length s → allZero (drop i s) ≡ eqb (getD s i 0) 0 && allZero (drop (i + 1) s)
+unfolding allZero
+zero-turn s i h = rw (add-one i, drop-cons s i 0 h)
+
+-- The least key that the i-th entry may have, `last` being the key before it.
+unfoldable pub leastAfter : (i last : ℕ) → ℕ
+leastAfter i last = cond (eqb i 0) 0 (suc last)
+
+least-test : (b : Bool) (last key : ℕ) → leb (cond b 0 (suc last)) key ≡ b || ltb last key
+least-test true last key = leb·zero key
+least-test false last key = refl
+
+-- The entries from the i-th on are good if it is, and all behind it.
+pub good-turn : (n i : ℕ) (s : List ℕ) (at last end : ℕ) → i < n
+    → entriesGood (n - i) s at (leastAfter i last) end
+    ≡ (entryForm (kindAt s at) (lengthAt s at) && (eqb i 0 || ltb last (keyAt s at)))
+    && entriesGood (n - (i + 1)) s (at + lengthAt s at) (leastAfter (i + 1) (keyAt s at)) end
+unfolding entriesGood leastAfter
+good-turn n i s at last end h =
+    let e : n - i ≡ suc (n - (i + 1)) = omega arith in
+    rw (e, add-one i, eqb·suc-zero i, least-test (eqb i 0) last (keyAt s at), and-assoc)
+
+-- The first key not below k is this entry's, or one behind it.
+pub seek-turn : (n i : ℕ) (s : List ℕ) (at k : ℕ) → i < n
+    → seekAt (n - i) s at k ≡ cond (leb k (keyAt s at)) (At at) (seekAt (n - (i + 1)) s (at + lengthAt s at) k)
+unfolding seekAt
+seek-turn n i s at k h =
+    let e : n - i ≡ suc (n - (i + 1)) = omega arith in
+    rw e
+
+-- A table is good if its head is, its entries are and the rest is zero.
+pub good-head : (fewest : ℕ) (s : List ℕ)
+    → tableGood fewest s
+    ≡ (eqb (kindAt s 0) 32 && (leb fewest (countOf s) && (leb (countOf s) tableLimit && eqb (numberAt 2 s 6) 0)))
+    && (entriesGood (countOf s) s tableHead 0 (lengthAt s 0) && allZero (drop (lengthAt s 0) s))
+unfolding tableGood
+good-head fewest s = simp and-assoc
+
+-- What is left to copy is this byte and those behind it.
+pub copy-turn : (d : List ℕ) (at : ℕ) (v : List ℕ) (i : ℕ) → i < length v
+    → sets d (at + i) (drop i v) ≡ sets (set d (at + i) (getD v i 0)) (at + (i + 1)) (drop (i + 1) v)
+copy-turn d at v i h =
+    let e : at + (i + 1) ≡ suc (at + i) = omega arith in
+    rw (e, add-one i, drop-cons v i 0 h)
+
+-- What is left to wipe is this byte and those behind it.
+pub wipe-turn : (s : List ℕ) (n i : ℕ) → i < n → sets s i (zeros (n - i)) ≡ sets (set s i 0) (i + 1) (zeros (n - (i + 1)))
+unfolding zeros
+wipe-turn s n i h =
+    let e : n - i ≡ suc (n - (i + 1)) = omega arith in
+    rw (e, add-one i)

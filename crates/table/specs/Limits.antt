@@ -1,0 +1,26 @@
+-- The numbers that bound the formats (document 01, "Lent memory"), each said once.
+use Prim.Native.Nat.{ℕ, _+_}
+
+-- a value has at most so many bytes
+abbrev pub valueLimit : ℕ
+valueLimit = 48
+
+-- the bytes of an entry before its value: length, kind, key
+abbrev pub entryHead : ℕ
+entryHead = 12
+
+-- an entry has at most so many bytes
+abbrev pub entryLimit : ℕ
+entryLimit = entryHead + valueLimit
+
+-- the bytes of a table before its entries: length in use, kind, entry count, zero
+abbrev pub tableHead : ℕ
+tableHead = 8
+
+-- a table, and the memory table, has at most so many entries
+abbrev pub tableLimit : ℕ
+tableLimit = 16
+
+-- a place has so many bytes
+abbrev pub placeSize : ℕ
+placeSize = 1024

@@ -1,0 +1,285 @@
+//! Damage to sound stores: named ways to break each of the rules A to G.
+
+use super::random::Random;
+use crate::lent::*;
+use crate::limits::{LEVELS, PLACE_BYTES};
+use crate::rules::Rule;
+use crate::table::read_table;
+
+/// Damages a store, or gives none where it has nothing to damage in this way.
+pub type Plant = fn(&mut Lent, &mut Random) -> Option<()>;
+
+/// A way to break one rule.
+pub struct Damage {
+    pub name: &'static str,
+    pub rule: Rule,
+    /// Whether no other rule is broken with it.
+    pub alone: bool,
+    pub plant: Plant,
+}
+
+const fn alone(rule: Rule, name: &'static str, plant: Plant) -> Damage {
+    Damage { name, rule, alone: true, plant }
+}
+
+const fn mixed(rule: Rule, name: &'static str, plant: Plant) -> Damage {
+    Damage { name, rule, alone: false, plant }
+}
+
+/// Every rule in several ways.
+pub const DAMAGES: &[Damage] = &[
+    mixed(Rule::A, "threshold 0", |lent, _| set_head(lent, HEAD_THRESHOLD, 0)),
+    alone(Rule::A, "threshold 9", |lent, _| set_head(lent, HEAD_THRESHOLD, 9)),
+    alone(Rule::A, "threshold of 64 bits", |lent, _| set_head(lent, HEAD_THRESHOLD, u64::MAX)),
+    alone(Rule::A, "cursor P", |lent, _| set_head(lent, HEAD_CURSOR, lent.cards.len() as u64)),
+    alone(Rule::A, "cursor beyond 16 bits", |lent, _| set_head(lent, HEAD_CURSOR, 1 << 16)),
+    alone(Rule::B, "state 3", |lent, random| {
+        let place = any_place(lent, random, STATE_FREE)?;
+        set_card(lent, place, ROW_STATE, 3)
+    }),
+    mixed(Rule::B, "live and in no list", |lent, random| {
+        let place = any_place(lent, random, STATE_FREE)?;
+        set_card(lent, place, ROW_STATE, STATE_LIVE)
+    }),
+    alone(Rule::B, "listed and free", |lent, random| {
+        let place = any_place(lent, random, STATE_LIVE)?;
+        set_card(lent, place, ROW_STATE, STATE_FREE)
+    }),
+    alone(Rule::B, "listed and frozen", |lent, random| {
+        let place = any_place(lent, random, STATE_LIVE)?;
+        set_card(lent, place, ROW_STATE, STATE_FROZEN)
+    }),
+    alone(Rule::B, "listed twice", |lent, random| {
+        let place = any_place(lent, random, STATE_LIVE)?;
+        append_item(lent, random, place as u16)
+    }),
+    alone(Rule::B, "frozen and listed", |lent, random| {
+        let place = any_place(lent, random, STATE_FROZEN)?;
+        append_item(lent, random, place as u16)
+    }),
+    alone(Rule::B, "item P", |lent, random| append_item(lent, random, lent.cards.len() as u16)),
+    alone(Rule::B, "item of all bits", |lent, random| append_item(lent, random, u16::MAX)),
+    alone(Rule::B, "list longer than P", |lent, random| {
+        let level = random.below(4);
+        set_head(lent, HEAD_LENGTHS + level, lent.cards.len() as u64 + 1)
+    }),
+    alone(Rule::B, "list length of 64 bits", |lent, random| {
+        let level = random.below(4);
+        set_head(lent, HEAD_LENGTHS + level, u64::MAX)
+    }),
+    alone(Rule::B, "free card with a link", |lent, random| {
+        let place = any_place(lent, random, STATE_FREE)?;
+        set_card(lent, place, ROW_COUNT, 1)
+    }),
+    alone(Rule::B, "frozen card with a link", |lent, random| {
+        let place = any_place(lent, random, STATE_FROZEN)?;
+        set_card(lent, place, ROW_COUNT, 1)
+    }),
+    alone(Rule::C, "damaged live table", |lent, random| {
+        let place = any_place(lent, random, STATE_LIVE)?;
+        damage_table(&mut lent.area[place * PLACE_BYTES..][..PLACE_BYTES], random)
+    }),
+    alone(Rule::C, "damaged frozen table", |lent, random| {
+        let place = any_place(lent, random, STATE_FROZEN)?;
+        damage_table(&mut lent.area[place * PLACE_BYTES..][..PLACE_BYTES], random)
+    }),
+    alone(Rule::C, "live table without entries", |lent, random| {
+        let place = any_place(lent, random, STATE_LIVE)?;
+        let bytes = &mut lent.area[place * PLACE_BYTES..][..PLACE_BYTES];
+        bytes.fill(0);
+        bytes[..4].copy_from_slice(&[8, 0, 32, 0]);
+        Some(())
+    }),
+    alone(Rule::D, "memory of zeros", |lent, _| {
+        lent.memory.fill(0);
+        Some(())
+    }),
+    alone(Rule::D, "damaged memory", |lent, random| damage_table(&mut lent.memory, random)),
+    alone(Rule::E, "low above high", |lent, random| {
+        let (place, word) = any_link(lent, random)?;
+        let (low, high) = (lent.cards[place][word + 1], lent.cards[place][word + 2]);
+        set_card(lent, place, word + 1, high)?;
+        set_card(lent, place, word + 2, low)?;
+        (low < high).then_some(())
+    }),
+    mixed(Rule::E, "more links than the threshold", |lent, random| {
+        let (place, _) = any_link(lent, random)?;
+        let count = lent.head[HEAD_THRESHOLD] + 1;
+        set_card(lent, place, ROW_COUNT, count)
+    }),
+    mixed(Rule::E, "link count of 64 bits", |lent, random| {
+        let (place, _) = any_link(lent, random)?;
+        set_card(lent, place, ROW_COUNT, u64::MAX)
+    }),
+    mixed(Rule::E, "link on level 0", |lent, random| {
+        let (from, word) = any_link(lent, random)?;
+        let link = lent.cards[from][word..word + 3].to_vec();
+        let on = usize::from(lent.lists[0]);
+        lent.cards[on][ROW_LINKS..ROW_LINKS + 3].copy_from_slice(&link);
+        set_card(lent, on, ROW_COUNT, 1)?;
+        (lent.head[HEAD_LENGTHS] > 0).then_some(())
+    }),
+    mixed(Rule::E, "link to a live place", |lent, random| {
+        let (place, word) = any_link(lent, random)?;
+        set_card(lent, place, word, place as u64)
+    }),
+    mixed(Rule::E, "link to no place", |lent, random| {
+        let (place, word) = any_link(lent, random)?;
+        let nowhere = *random.pick(&[lent.cards.len() as u64, 1 << 32, u64::MAX]);
+        set_card(lent, place, word, nowhere)
+    }),
+    alone(Rule::E, "one slice twice on a table", |lent, random| {
+        let (place, word) = any_link(lent, random)?;
+        let count = lent.cards[place][ROW_COUNT];
+        let link = lent.cards[place][word..word + 3].to_vec();
+        let next = ROW_LINKS + 3 * count as usize;
+        lent.cards[place].get_mut(next..next + 3)?.copy_from_slice(&link);
+        set_card(lent, place, ROW_COUNT, count + 1)?;
+        (count < lent.head[HEAD_THRESHOLD]).then_some(())
+    }),
+    mixed(Rule::E, "one place on two levels", |lent, random| {
+        let (from, word) = any_link(lent, random)?;
+        let link = lent.cards[from][word..word + 3].to_vec();
+        let on = any_place(lent, random, STATE_LIVE)?;
+        let count = lent.cards[on][ROW_COUNT];
+        let fits =
+            level_of(lent, on)? != level_of(lent, from)? && count < lent.head[HEAD_THRESHOLD];
+        let next = ROW_LINKS + 3 * count as usize;
+        lent.cards[on].get_mut(next..next + 3)?.copy_from_slice(&link);
+        set_card(lent, on, ROW_COUNT, count + 1)?;
+        fits.then_some(())
+    }),
+    alone(Rule::E, "link without an entry", |lent, random| {
+        let (place, word) = any_link(lent, random)?;
+        let (low, high) = (lent.cards[place][word + 1], lent.cards[place][word + 2]);
+        let frozen = lent.cards[place][word] as usize;
+        let shown = read_table(lent.place(frozen), 1)?;
+        let least = shown.iter().map(|(key, _)| *key).find(|key| (low..=high).contains(key))?;
+        set_card(lent, place, word + 2, least.checked_sub(1)?)?;
+        (low < least).then_some(())
+    }),
+    alone(Rule::F, "frozen without a link", |lent, random| {
+        let free = any_place(lent, random, STATE_FREE)?;
+        let live = any_place(lent, random, STATE_LIVE)?;
+        lent.area.copy_within(live * PLACE_BYTES..(live + 1) * PLACE_BYTES, free * PLACE_BYTES);
+        set_card(lent, free, ROW_STATE, STATE_FROZEN)
+    }),
+    alone(Rule::F, "last link taken away", |lent, random| {
+        let (place, word) = any_link(lent, random)?;
+        let frozen = lent.cards[place][word];
+        let alone = lent.cards[place][ROW_COUNT] == 1;
+        lent.cards[place][ROW_COUNT..].fill(0);
+        let named = lent.cards.iter().any(|card| {
+            card[ROW_LINKS..].chunks(3).take(card[ROW_COUNT] as usize).any(|link| link[0] == frozen)
+        });
+        (alone && !named).then_some(())
+    }),
+    alone(Rule::G, "two tables in the wrong order", |lent, random| {
+        let level = 1 + random.below(3);
+        let start = level * lent.cards.len();
+        lent.lists.swap(start, start + 1);
+        (lent.head[HEAD_LENGTHS + level] > 1).then_some(())
+    }),
+    mixed(Rule::G, "a span that ends where the next begins", |lent, random| {
+        let (place, word) = any_link(lent, random)?;
+        let level = level_of(lent, place)?;
+        let list =
+            &lent.lists[level * lent.cards.len()..][..lent.head[HEAD_LENGTHS + level] as usize];
+        let position = list.iter().position(|item| usize::from(*item) == place)?;
+        let next = usize::from(*list.get(position + 1)?);
+        let own = read_table(lent.place(next), 1)?.first()?.0;
+        let row = &lent.cards[next];
+        let links = row[ROW_LINKS..].chunks(3).take(row[ROW_COUNT] as usize);
+        let start = links.map(|link| link[1]).fold(own, u64::min);
+        set_card(lent, place, word + 2, start)
+    }),
+    alone(Rule::G, "mark flag above 1", |lent, random| {
+        let flag = HEAD_MARKS + 2 * random.below(2);
+        let value = *random.pick(&[2, 3, u64::MAX]);
+        set_head(lent, flag, value)
+    }),
+    alone(Rule::G, "key of no mark", |lent, random| {
+        let flag = HEAD_MARKS + 2 * random.below(2);
+        set_head(lent, flag, 0)?;
+        set_head(lent, flag + 1, 1 + random.word() / 2)
+    }),
+    alone(Rule::G, "word beyond a card's links", |lent, random| {
+        let place = random.below(lent.cards.len());
+        let first = ROW_LINKS + 3 * lent.cards[place][ROW_COUNT] as usize;
+        *lent.cards[place][first..].last_mut()? = 1;
+        Some(())
+    }),
+    alone(Rule::G, "item beyond a list's length", |lent, random| {
+        let level = random.below(4);
+        let last = (level + 1) * lent.cards.len() - 1;
+        lent.lists[last] = 1 + random.below(9) as u16;
+        (lent.head[HEAD_LENGTHS + level] < lent.cards.len() as u64).then_some(())
+    }),
+];
+
+fn set_head(lent: &mut Lent, word: usize, value: u64) -> Option<()> {
+    lent.head[word] = value;
+    Some(())
+}
+
+fn set_card(lent: &mut Lent, place: usize, word: usize, value: u64) -> Option<()> {
+    lent.cards[place][word] = value;
+    Some(())
+}
+
+fn any_place(lent: &Lent, random: &mut Random, state: u64) -> Option<usize> {
+    let places: Vec<usize> =
+        (0..lent.cards.len()).filter(|place| lent.cards[*place][ROW_STATE] == state).collect();
+    (!places.is_empty()).then(|| *random.pick(&places))
+}
+
+/// The level whose list names a place.
+fn level_of(lent: &Lent, place: usize) -> Option<usize> {
+    (0..LEVELS).find(|level| {
+        let list = &lent.lists[level * lent.cards.len()..];
+        let length = lent.head[HEAD_LENGTHS + level] as usize;
+        list[..length].iter().any(|item| usize::from(*item) == place)
+    })
+}
+
+/// A card with links and the first word of one of them.
+fn any_link(lent: &Lent, random: &mut Random) -> Option<(usize, usize)> {
+    let linked = |place: &usize| lent.cards[*place][ROW_COUNT] > 0;
+    let places: Vec<usize> = (0..lent.cards.len()).filter(linked).collect();
+    let place = *places.get(random.below(places.len().max(1)))?;
+    let link = random.below(lent.cards[place][ROW_COUNT] as usize);
+    Some((place, ROW_LINKS + 3 * link))
+}
+
+fn append_item(lent: &mut Lent, random: &mut Random, item: u16) -> Option<()> {
+    let level = random.below(4);
+    let length = lent.head[HEAD_LENGTHS + level] as usize;
+    let list = &mut lent.lists[level * lent.cards.len()..][..lent.cards.len()];
+    *list.get_mut(length)? = item;
+    lent.head[HEAD_LENGTHS + level] += 1;
+    Some(())
+}
+
+/// Breaks a table of at least two entries in one of several ways.
+fn damage_table(bytes: &mut [u8], random: &mut Random) -> Option<()> {
+    let length = usize::from(u16::from_le_bytes([bytes[0], bytes[1]]));
+    let second = 8 + usize::from(u16::from_le_bytes([bytes[8], bytes[9]]));
+    if bytes[4] < 2 || length >= PLACE_BYTES {
+        return None;
+    }
+    match random.below(11) {
+        0 => bytes[0] ^= 1,
+        1 => bytes[2] = 31,
+        2 => bytes[4] += 1,
+        3 => bytes[4] -= 1,
+        4 => bytes[6] = 1,
+        5 => bytes[8] = 61,
+        6 => bytes[8] = 11,
+        7 => bytes[10] = 3,
+        8 => bytes[PLACE_BYTES - 1] = 1,
+        9 => bytes[7] = 1,
+        // The second key becomes the first: keys no longer rise.
+        _ => bytes.copy_within(12..20, second + 4),
+    }
+    Some(())
+}

@@ -1,0 +1,11 @@
+//! Seeded generators: request lists, arbitrary sound stores, broken lists and damaged stores.
+
+pub mod broken;
+pub mod damage;
+pub mod features;
+pub mod keys;
+pub mod planted;
+pub mod profile;
+pub mod random;
+pub mod requests;
+pub mod vectors;

@@ -1,0 +1,139 @@
+//! Profiles of use: which requests come how often, over which keys.
+
+use super::keys::Keys;
+use super::random::Random;
+use super::requests::{self, any_value};
+use crate::limits::LIST_BYTES;
+
+/// How often each kind of request comes, relative to the others.
+#[derive(Clone, Copy, Debug)]
+pub struct Profile {
+    pub name: &'static str,
+    pub puts: usize,
+    pub deletes: usize,
+    pub look_ups: usize,
+    pub scans: usize,
+    pub flushes: usize,
+    pub tidies: usize,
+    pub reports: usize,
+    pub refused: usize,
+    /// Bursts of puts with a flush and some tidies after them.
+    pub loads: usize,
+    /// The most keys of one load.
+    pub load_keys: usize,
+    /// The most tidies after one load.
+    pub load_tidies: usize,
+}
+
+const STEADY: Profile = Profile {
+    name: "steady",
+    puts: 50,
+    deletes: 12,
+    look_ups: 25,
+    scans: 8,
+    flushes: 6,
+    tidies: 14,
+    reports: 2,
+    refused: 2,
+    loads: 0,
+    load_keys: 1,
+    load_tidies: 0,
+};
+
+/// Profiles for histories and planted stores.
+pub const PROFILES: [Profile; 5] = [
+    STEADY,
+    // Many tables soon, down to level 3 where places allow.
+    Profile { name: "deep", loads: 20, load_keys: 16, load_tidies: 8, ..STEADY },
+    // Small tables, so that keys spread thinly over many places.
+    Profile { name: "thin", loads: 60, load_keys: 3, load_tidies: 5, ..STEADY },
+    // Hardly a tidy, so that places run out.
+    Profile { name: "filling", tidies: 2, loads: 40, load_keys: 4, load_tidies: 1, ..STEADY },
+    // Tidies above all, and reads between them.
+    Profile { name: "tidying", puts: 30, tidies: 90, flushes: 10, refused: 8, ..STEADY },
+];
+
+/// Makes a request for a key.
+type Maker = fn(&mut Source, u64) -> Vec<u8>;
+
+/// Makes requests of a profile, one after the other.
+pub struct Source {
+    profile: Profile,
+    keys: Keys,
+    pub random: Random,
+    /// What is left of a load that has begun, last first.
+    waiting: Vec<Vec<u8>>,
+}
+
+impl Source {
+    pub fn new(profile: Profile, keys: Keys, seed: u64) -> Source {
+        Source { profile, keys, random: Random::new(seed), waiting: Vec::new() }
+    }
+
+    /// The next request.
+    pub fn request(&mut self) -> Vec<u8> {
+        if let Some(request) = self.waiting.pop() {
+            return request;
+        }
+        let profile = self.profile;
+        let key = self.keys.draw(&mut self.random);
+        let makers: [(usize, Maker); 9] = [
+            (profile.puts, |source, key| requests::put(key, &any_value(&mut source.random))),
+            (profile.deletes, |_, key| requests::delete(key)),
+            (profile.look_ups, |_, key| requests::look_up(key)),
+            (profile.scans, Source::scan),
+            (profile.flushes, |_, _| requests::flush()),
+            (profile.tidies, |_, _| requests::tidy()),
+            (profile.reports, |_, _| requests::report()),
+            (profile.refused, |source, _| requests::refused(&mut source.random)),
+            (profile.loads, Source::load),
+        ];
+        let mut ticket = self.random.below(makers.iter().map(|(weight, _)| weight).sum());
+        for (weight, maker) in makers {
+            if ticket < weight {
+                return maker(self, key);
+            }
+            ticket -= weight;
+        }
+        unreachable!("the ticket is below the sum of the weights")
+    }
+
+    /// A list of so many requests, or as many as fit a list.
+    pub fn list(&mut self, count: usize) -> Vec<u8> {
+        let mut list = Vec::new();
+        for _ in 0..count {
+            let request = self.request();
+            if list.len() + request.len() > LIST_BYTES {
+                self.waiting.push(request);
+                break;
+            }
+            list.extend(request);
+        }
+        list
+    }
+
+    /// A scan from the key: up to another one, over all keys, or over this key alone.
+    fn scan(&mut self, key: u64) -> Vec<u8> {
+        let other = self.keys.draw(&mut self.random);
+        match self.random.below(6) {
+            0 => requests::scan(0, u64::MAX),
+            1 => requests::scan(key, key),
+            2 => requests::scan(key, u64::MAX),
+            _ => requests::scan(key.min(other), key.max(other)),
+        }
+    }
+
+    /// Begins a load: its first put now, the rest in the requests that follow.
+    fn load(&mut self, key: u64) -> Vec<u8> {
+        for _ in 0..self.random.below(self.profile.load_tidies + 1) {
+            self.waiting.push(requests::tidy());
+        }
+        self.waiting.push(requests::flush());
+        for _ in 0..self.random.below(self.profile.load_keys) {
+            let key = self.keys.draw(&mut self.random);
+            let value = any_value(&mut self.random);
+            self.waiting.push(requests::put(key, &value));
+        }
+        requests::put(key, &any_value(&mut self.random))
+    }
+}

@@ -1,0 +1,58 @@
+//! What an implementation of the store looks like from outside, so that any can be judged.
+
+use crate::lent::Lent;
+use crate::rules::{check, Broken};
+use crate::run::{make, run_with_slip};
+use crate::slip::Slip;
+
+/// The numbers that a run gives back; the answers lie in the buffer.
+#[derive(Clone, Copy, PartialEq, Eq, Debug)]
+pub struct Ran {
+    pub number: u16,
+    /// The letter of a broken rule where the number is 5, else 0.
+    pub letter: u8,
+    pub served: usize,
+    pub written: usize,
+}
+
+/// An implementation works on lent memory alone and keeps nothing of its own between calls.
+pub trait Implementation {
+    /// Makes a new store: 0, 1 or 2.
+    fn make(&self, lent: &mut Lent, threshold: u64) -> u16;
+
+    /// Checks a store: 0, 1 or 5, and the letter of a broken rule with 5, else 0.
+    fn check(&self, lent: &Lent) -> (u16, u8);
+
+    /// Runs a list and writes answers to the front of the buffer.
+    fn run(&self, lent: &mut Lent, list: &[u8], answers: &mut [u8]) -> Ran;
+}
+
+/// The second implementation, with a slip planted if it is a mutant.
+#[derive(Clone, Copy, Default, Debug)]
+pub struct Reference {
+    pub slip: Option<Slip>,
+}
+
+/// The first of the broken rules as a letter, 0 if none is broken.
+fn first_letter(broken: &Broken) -> u8 {
+    broken.first().map_or(0, |rule| rule.letter())
+}
+
+impl Implementation for Reference {
+    fn make(&self, lent: &mut Lent, threshold: u64) -> u16 {
+        make(lent, threshold)
+    }
+
+    fn check(&self, lent: &Lent) -> (u16, u8) {
+        let verdict = check(lent);
+        (verdict.number, first_letter(&verdict.broken))
+    }
+
+    fn run(&self, lent: &mut Lent, list: &[u8], answers: &mut [u8]) -> Ran {
+        let outcome = run_with_slip(lent, list, answers.len(), self.slip);
+        let written = outcome.answers.len();
+        answers[..written].copy_from_slice(&outcome.answers);
+        let letter = first_letter(&outcome.broken);
+        Ran { number: outcome.number, letter, served: outcome.served, written }
+    }
+}

@@ -1,0 +1,87 @@
+//! The lent memory as the host sees it: bytes and numbers of any content, sound or not.
+
+use crate::limits::{CARD_LINKS, LEVELS, PLACES, PLACE_BYTES};
+
+/// One row of a card: state, link count, then place, low and high of eight links.
+pub type Row = [u64; 2 + 3 * CARD_LINKS];
+
+/// Word of a row that holds the state.
+pub const ROW_STATE: usize = 0;
+/// Word of a row that holds the number of links.
+pub const ROW_COUNT: usize = 1;
+/// First word of the links of a row.
+pub const ROW_LINKS: usize = 2;
+
+pub const STATE_FREE: u64 = 0;
+pub const STATE_LIVE: u64 = 1;
+pub const STATE_FROZEN: u64 = 2;
+
+/// Word of the head that holds the threshold.
+pub const HEAD_THRESHOLD: usize = 0;
+/// Word of the head that holds the place cursor.
+pub const HEAD_CURSOR: usize = 1;
+/// First of the head's words for marks: flag and key of level 1, then of level 2.
+pub const HEAD_MARKS: usize = 2;
+/// First of the four words of the head that hold the lengths of the level lists.
+pub const HEAD_LENGTHS: usize = 6;
+
+/// The five pieces of memory that a host lends to the store.
+#[derive(Clone, PartialEq, Eq, Debug)]
+pub struct Lent {
+    pub area: Vec<u8>,
+    pub cards: Vec<Row>,
+    /// Four lists of P items, level after level.
+    pub lists: Vec<u16>,
+    pub head: [u64; HEAD_LENGTHS + LEVELS],
+    pub memory: [u8; PLACE_BYTES],
+}
+
+impl Lent {
+    /// Memory of the right sizes for this many places, all of it zero. This is not a store yet.
+    pub fn zeroed(places: usize) -> Lent {
+        Lent {
+            area: vec![0; places * PLACE_BYTES],
+            cards: vec![[0; 2 + 3 * CARD_LINKS]; places],
+            lists: vec![0; LEVELS * places],
+            head: [0; HEAD_LENGTHS + LEVELS],
+            memory: [0; PLACE_BYTES],
+        }
+    }
+
+    /// The number of places, or none where the sizes are refused with number 1.
+    pub fn places(&self) -> Option<usize> {
+        let places = self.area.len() / PLACE_BYTES;
+        let fits = self.area.len().is_multiple_of(PLACE_BYTES)
+            && PLACES.contains(&places)
+            && self.cards.len() == places
+            && self.lists.len() == LEVELS * places;
+        fits.then_some(places)
+    }
+
+    /// The bytes of one place.
+    pub fn place(&self, place: usize) -> &[u8] {
+        &self.area[place * PLACE_BYTES..][..PLACE_BYTES]
+    }
+
+    /// The first difference to another image in words, for reports of failed tests.
+    pub fn difference(&self, other: &Lent) -> Option<String> {
+        if self.head != other.head {
+            return Some(format!("head {:?} and {:?}", self.head, other.head));
+        }
+        if self.memory != other.memory {
+            return Some("memory table".into());
+        }
+        if self.lists != other.lists {
+            return Some("level lists".into());
+        }
+        let card = self.cards.iter().zip(&other.cards).position(|(a, b)| a != b);
+        if let Some(place) = card {
+            return Some(format!("card of place {place}"));
+        }
+        let byte = self.area.iter().zip(&other.area).position(|(a, b)| a != b);
+        if let Some(byte) = byte {
+            return Some(format!("bytes of place {}", byte / PLACE_BYTES));
+        }
+        (self != other).then(|| "sizes".into())
+    }
+}

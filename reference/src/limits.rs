@@ -1,0 +1,44 @@
+//! The order's numbers that more than one file needs, one name for each.
+
+use std::ops::RangeInclusive;
+
+/// Bytes of one place, and of the memory table.
+pub const PLACE_BYTES: usize = 1024;
+
+/// How many places a store may have.
+pub const PLACES: RangeInclusive<usize> = 16..=4096;
+
+/// The thresholds a store may have.
+pub const THRESHOLDS: RangeInclusive<u64> = 1..=8;
+
+/// The links a card has room for.
+pub const CARD_LINKS: usize = 8;
+
+/// The longest value.
+pub const VALUE_BYTES: usize = 48;
+
+/// Bytes of an entry before its value: length, kind and key.
+pub const ENTRY_HEAD: usize = 12;
+
+/// Bytes of a table before its first entry.
+pub const TABLE_HEAD: usize = 8;
+
+/// The most entries a table or the memory holds.
+pub const TABLE_ENTRIES: usize = 16;
+
+/// The most values one scan gives.
+pub const SCAN_VALUES: usize = 16;
+
+/// Levels 0 to 3.
+pub const LEVELS: usize = 4;
+
+/// The longest request list.
+pub const LIST_BYTES: usize = 65_536;
+
+/// Room that must be left in the answer buffer before a request is served.
+pub const ANSWER_ROOM: usize = 1024;
+
+/// How many live tables a level holds before tidy takes one away; level 3 has no such limit.
+pub fn capacity(level: usize) -> usize {
+    [2, 8, 32][level]
+}

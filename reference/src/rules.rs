@@ -1,0 +1,219 @@
+//! Rules A to G over lent memory of any content: the set of all that are broken.
+
+use crate::lent::*;
+use crate::limits::{CARD_LINKS, LEVELS, THRESHOLDS};
+use crate::table::{read_table, Key, Shown};
+use std::collections::{BTreeMap, BTreeSet};
+
+/// A rule of a sound store.
+#[derive(Clone, Copy, PartialEq, Eq, PartialOrd, Ord, Debug)]
+pub enum Rule {
+    A,
+    B,
+    C,
+    D,
+    E,
+    F,
+    G,
+}
+
+impl Rule {
+    pub const ALL: [Rule; 7] = [Rule::A, Rule::B, Rule::C, Rule::D, Rule::E, Rule::F, Rule::G];
+
+    /// The letter as its ASCII code.
+    pub fn letter(self) -> u8 {
+        b'A' + self as u8
+    }
+}
+
+/// All broken rules.
+pub type Broken = BTreeSet<Rule>;
+
+/// The answer of a check: 0, 1 or 5, and with 5 every broken rule.
+#[derive(Clone, PartialEq, Eq, Debug)]
+pub struct Verdict {
+    pub number: u16,
+    pub broken: Broken,
+}
+
+/// Checks lent memory of any sizes and any content.
+pub fn check(lent: &Lent) -> Verdict {
+    let Some(places) = lent.places() else {
+        return Verdict { number: 1, broken: Broken::new() };
+    };
+    let image = Image { lent, places };
+    let broken = image.broken();
+    let number = if broken.is_empty() { 0 } else { 5 };
+    Verdict { number, broken }
+}
+
+/// A link as it stands in a row; its numbers may mean nothing.
+struct RawLink {
+    on: usize,
+    level: usize,
+    place: u64,
+    low: Key,
+    high: Key,
+}
+
+/// Lent memory of fitting sizes.
+struct Image<'a> {
+    lent: &'a Lent,
+    places: usize,
+}
+
+impl<'a> Image<'a> {
+    fn broken(&self) -> Broken {
+        let tables = self.tables();
+        let mut kept = vec![
+            (Rule::A, self.rule_a()),
+            (Rule::B, self.rule_b()),
+            (Rule::C, tables.is_some()),
+            (Rule::D, read_table(&self.lent.memory, 0).is_some()),
+        ];
+        // E, F and G speak of listed tables and their entries: without B and C they count as kept.
+        if let (true, Some(tables)) = (self.rule_b(), tables) {
+            let links = self.links();
+            kept.push((Rule::E, self.rule_e(&links, &tables)));
+            kept.push((Rule::F, self.rule_f(&links)));
+            kept.push((Rule::G, self.spans_apart(&links, &tables) && self.unused_is_zero()));
+        }
+        kept.iter().filter(|(_, kept)| !kept).map(|(rule, _)| *rule).collect()
+    }
+
+    fn state(&self, place: usize) -> u64 {
+        self.lent.cards[place][ROW_STATE]
+    }
+
+    /// The items in use of a level's list; of a length beyond P only P items are there.
+    fn list(&self, level: usize) -> &'a [u16] {
+        let length = self.lent.head[HEAD_LENGTHS + level].min(self.places as u64);
+        &self.lent.lists[level * self.places..][..length as usize]
+    }
+
+    /// What live and frozen places show, or none if one of them holds no table (rule C).
+    fn tables(&self) -> Option<Vec<Shown<'a>>> {
+        let read = |place| match self.state(place) {
+            STATE_LIVE | STATE_FROZEN => read_table(self.lent.place(place), 1),
+            _ => Some(Vec::new()),
+        };
+        (0..self.places).map(read).collect()
+    }
+
+    /// The links of all listed tables, oldest first on each; a row has room for eight.
+    fn links(&self) -> Vec<RawLink> {
+        let mut links = Vec::new();
+        for level in 0..LEVELS {
+            for item in self.list(level) {
+                let on = usize::from(*item);
+                let row = &self.lent.cards[on];
+                let count = row[ROW_COUNT].min(CARD_LINKS as u64) as usize;
+                for words in row[ROW_LINKS..].chunks(3).take(count) {
+                    let [place, low, high] = [words[0], words[1], words[2]];
+                    links.push(RawLink { on, level, place, low, high });
+                }
+            }
+        }
+        links
+    }
+
+    fn rule_a(&self) -> bool {
+        THRESHOLDS.contains(&self.lent.head[HEAD_THRESHOLD])
+            && self.lent.head[HEAD_CURSOR] < self.places as u64
+    }
+
+    fn rule_b(&self) -> bool {
+        let mut listed = vec![0; self.places];
+        for level in 0..LEVELS {
+            if self.lent.head[HEAD_LENGTHS + level] > self.places as u64 {
+                return false;
+            }
+            for item in self.list(level) {
+                match listed.get_mut(usize::from(*item)) {
+                    Some(times) => *times += 1,
+                    None => return false,
+                }
+            }
+        }
+        self.lent.cards.iter().zip(listed).all(|(row, times)| match row[ROW_STATE] {
+            STATE_FREE | STATE_FROZEN => times == 0 && row[ROW_COUNT] == 0,
+            STATE_LIVE => times == 1,
+            _ => false,
+        })
+    }
+
+    fn rule_e(&self, links: &[RawLink], tables: &[Shown]) -> bool {
+        let threshold = self.lent.head[HEAD_THRESHOLD];
+        let few = self.lent.cards.iter().all(|row| row[ROW_COUNT] <= threshold);
+        let level_0_bare = self.list(0).iter().all(|place| {
+            let row = &self.lent.cards[usize::from(*place)];
+            row[ROW_COUNT] == 0
+        });
+        few && level_0_bare
+            && links.iter().all(|link| self.holds_frozen_entry(link, tables))
+            && slices_apart(links)
+    }
+
+    /// Low is not above high, and the link names a frozen place with an entry in its range.
+    fn holds_frozen_entry(&self, link: &RawLink, tables: &[Shown]) -> bool {
+        let holds = |(key, _): &(Key, _)| (link.low..=link.high).contains(key);
+        link.place < self.places as u64
+            && self.state(link.place as usize) == STATE_FROZEN
+            && tables[link.place as usize].iter().any(holds)
+    }
+
+    fn rule_f(&self, links: &[RawLink]) -> bool {
+        let named: BTreeSet<u64> = links.iter().map(|link| link.place).collect();
+        (0..self.places)
+            .all(|place| (self.state(place) == STATE_FROZEN) == named.contains(&(place as u64)))
+    }
+
+    /// On levels 1 to 3 each span ends below the start of the next.
+    fn spans_apart(&self, links: &[RawLink], tables: &[Shown]) -> bool {
+        let mut ends: BTreeMap<usize, Vec<Key>> = BTreeMap::new();
+        for link in links {
+            ends.entry(link.on).or_default().extend([link.low, link.high]);
+        }
+        let span = |item: &u16| {
+            let place = usize::from(*item);
+            let own = tables[place].iter().map(|(key, _)| *key);
+            let keys: Vec<Key> =
+                own.chain(ends.get(&place).into_iter().flatten().copied()).collect();
+            (keys.iter().min().copied(), keys.iter().max().copied())
+        };
+        (1..LEVELS).all(|level| {
+            let spans: Vec<_> = self.list(level).iter().map(span).collect();
+            spans.windows(2).all(|pair| pair[0].1 < pair[1].0)
+        })
+    }
+
+    /// Marks without a key, words beyond a card's links and items beyond a list's length.
+    fn unused_is_zero(&self) -> bool {
+        let marks = self.lent.head[HEAD_MARKS..HEAD_LENGTHS].chunks(2);
+        let marks_fit =
+            marks.into_iter().all(|mark| mark[0] == 1 || (mark[0] == 0 && mark[1] == 0));
+        let rows_fit = self.lent.cards.iter().all(|row| {
+            let used = row[ROW_COUNT].min(CARD_LINKS as u64) as usize;
+            row[ROW_LINKS + 3 * used..].iter().all(|word| *word == 0)
+        });
+        let lists_fit = (0..LEVELS).all(|level| {
+            let list = &self.lent.lists[level * self.places..][..self.places];
+            list[self.list(level).len()..].iter().all(|item| *item == 0)
+        });
+        marks_fit && rows_fit && lists_fit
+    }
+}
+
+/// Links naming one place share no key and hang on one level.
+fn slices_apart(links: &[RawLink]) -> bool {
+    let mut by_place: BTreeMap<u64, Vec<&RawLink>> = BTreeMap::new();
+    for link in links {
+        by_place.entry(link.place).or_default().push(link);
+    }
+    by_place.values_mut().all(|named| {
+        // A range upside down holds no key; such a link breaks E elsewhere.
+        named.retain(|link| link.low <= link.high);
+        named.sort_by_key(|link| link.low);
+        named.windows(2).all(|pair| pair[0].high < pair[1].low && pair[0].level == pair[1].level)
+    })
+}

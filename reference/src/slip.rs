@@ -1,0 +1,129 @@
+//! The mistakes that can be planted in the second implementation, to show that the judge sees them.
+
+/// Names each slip once, for the enum and for the list of all.
+macro_rules! slips {
+    ($($(#[$words:meta])* $name:ident,)*) => {
+        /// A planted mistake; each is consulted in exactly one place of the store's code.
+        #[derive(Clone, Copy, PartialEq, Eq, Debug)]
+        pub enum Slip {
+            $($(#[$words])* $name,)*
+        }
+
+        impl Slip {
+            /// All of them, in the order above.
+            pub const ALL: &'static [Slip] = &[$(Slip::$name,)*];
+        }
+    };
+}
+
+slips! {
+    // The five that the order names.
+    /// A newer level 0 table is linked before an older one.
+    NewerLevel0TableFirst,
+    /// Merges on every level drop delete marks.
+    MarksDroppedAboveLevel3,
+    /// A merge takes whole frozen tables and not their slices.
+    WholeFrozenTableMerged,
+    /// Reads meet a table's oldest link first.
+    OldestLinkReadFirst,
+    /// A table is responsible from its own span's start on.
+    KeysBetweenTablesUnlinked,
+
+    // Reading.
+    /// Reads meet the oldest table of level 0 first.
+    OldestLevel0TableReadFirst,
+    /// Scans show entries of frozen tables outside the links' ranges.
+    ScanReadsWholeFrozenTables,
+    /// `more` is 1 already at exactly sixteen values.
+    ScanMoreAtSixteen,
+    /// Delete marks count among the sixteen of a scan.
+    ScanCountsDeleteMarks,
+    /// A scan looks for an older value behind a delete mark.
+    ScanReadsThroughMarks,
+    /// The high end of a scan does not belong to it.
+    ScanLeavesHighOut,
+    /// The report gives the number of frozen places for that of links.
+    ReportCountsFrozenNotLinks,
+
+    // Memory, flush and places.
+    /// A put is of a new key if no look-up finds the key, and not if the memory lacks it.
+    NewKeyJudgedByMap,
+    /// A delete of a key that the memory lacks leaves no mark.
+    DeleteOfAbsentKeySkipped,
+    /// A flush of an empty memory is refused when no place is free.
+    EmptyFlushWantsPlace,
+    /// A flush leaves the memory as it was.
+    FlushKeepsMemory,
+    /// The cursor goes beyond the last place.
+    CursorNotWrapping,
+    /// The cursor always goes back to the first place.
+    CursorReset,
+    /// The cursor stays on the place taken.
+    CursorAtTakenPlace,
+
+    // Which table, which level.
+    /// Of due merges the one on the highest level number comes first.
+    DueHighestLevelFirst,
+    /// Of due merges on a level the one with the highest keys comes first.
+    DueHighestKeysFirst,
+    /// A merge is due only above T links.
+    DueOneLinkLate,
+    /// A level is above capacity when it has just reached it.
+    CapacityReachedIsAbove,
+    /// Live/capacity is rounded down before levels are compared.
+    RatiosAsWholeNumbers,
+    /// Of equally full levels the higher number is taken.
+    TiesToHigherLevel,
+    /// The choice begins at a table whose least own key is the mark.
+    ChoiceAtMark,
+    /// The choice begins by the spans' starts and not by least own keys.
+    ChoiceBySpanStart,
+    /// The choice does not go round.
+    ChoiceNotGoingRound,
+    /// Levels 1 and 2 share a mark.
+    OneMarkForBothLevels,
+    /// A choice that ends in a move leaves the mark.
+    MarkNotSetOnMove,
+    /// A merge in place of a choice sets the mark.
+    MarkSetByMergeInPlaceOfChoice,
+
+    // Move and link.
+    /// A table that moves to level 3 loses its delete marks.
+    MoveDropsMarks,
+    /// A tidy replies the level that the table came to.
+    LevelAfterStepReplied,
+    /// Responsibility goes by own keys and not by spans.
+    ResponsibleByOwnKeys,
+    /// The first range begins at the first span's start and not at 0.
+    FirstRangeFromSpanStart,
+    /// The last range ends at the last span's end and not at the greatest key.
+    LastRangeToSpanEnd,
+    /// Every table below gains a link, also without an entry in its range.
+    LinksWithoutEntries,
+    /// A new link is put before the older ones.
+    NewLinkInFront,
+
+    // Merge.
+    /// Of two entries of a key the older one stays.
+    OlderEntryWins,
+    /// 20 counts the entries before the newer of each key has won.
+    NeedCountedBeforeNewerWins,
+    /// 20 counts the entries before delete marks have gone on level 3.
+    NeedCountedBeforeMarksGo,
+    /// All old places are freed before the results are written, and count as free.
+    OldPlacesFreedFirst,
+    /// The old table's place is freed before the results are written, and counts as free.
+    OldPlaceReused,
+    /// The results stand at the end of their level's list.
+    ResultsAtListEnd,
+    /// A merge frees its frozen places although other tables have links to them.
+    FrozenFreedWhileNamed,
+    /// Frozen places are never freed.
+    FrozenNeverFreed,
+    /// A freed place loses its bytes.
+    FreedPlaceCleared,
+
+    // Run.
+    /// A run stops with exactly 1,024 bytes left.
+    StopWithRoomLeft,
+}

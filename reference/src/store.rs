@@ -1,0 +1,215 @@
+//! The decoded store, and its way from and to lent memory.
+
+use crate::lent::*;
+use crate::limits::{LEVELS, PLACE_BYTES};
+use crate::rules::{check, Verdict};
+use crate::slip::Slip;
+use crate::table::{greatest, least, owned, read_table, table_bytes, Entries, Key};
+
+/// A slice link: a frozen place and a key range, both ends included.
+#[derive(Clone, PartialEq, Eq, Debug)]
+pub struct Link {
+    pub place: usize,
+    pub low: Key,
+    pub high: Key,
+}
+
+impl Link {
+    pub fn holds(&self, key: Key) -> bool {
+        (self.low..=self.high).contains(&key)
+    }
+}
+
+/// A place with its card and its table.
+#[derive(Clone, PartialEq, Eq, Debug)]
+pub enum Place {
+    Free,
+    Live { table: Entries, links: Vec<Link> },
+    Frozen { table: Entries },
+}
+
+/// A sound store, decoded. The area is carried along, because free places keep their bytes.
+#[derive(Clone, PartialEq, Eq, Debug)]
+pub struct Store {
+    pub threshold: usize,
+    pub cursor: usize,
+    /// Marks of levels 1 and 2.
+    pub marks: [Option<Key>; 2],
+    /// Places of the live tables: level 0 oldest first, levels 1 to 3 by key.
+    pub levels: [Vec<usize>; LEVELS],
+    pub memory: Entries,
+    pub places: Vec<Place>,
+    pub area: Vec<u8>,
+    /// The planted mistake, if this store is a mutant.
+    pub slip: Option<Slip>,
+}
+
+impl Store {
+    /// Decodes lent memory if it is a sound store.
+    pub fn decode(lent: &Lent) -> Result<Store, Verdict> {
+        let verdict = check(lent);
+        if verdict.number != 0 {
+            return Err(verdict);
+        }
+        let count = lent.cards.len();
+        let mark = |level: usize| {
+            let flag = HEAD_MARKS + 2 * (level - 1);
+            (lent.head[flag] == 1).then_some(lent.head[flag + 1])
+        };
+        let list = |level: usize| {
+            let length = lent.head[HEAD_LENGTHS + level] as usize;
+            let items = &lent.lists[level * count..][..length];
+            items.iter().map(|item| usize::from(*item)).collect()
+        };
+        Ok(Store {
+            threshold: lent.head[HEAD_THRESHOLD] as usize,
+            cursor: lent.head[HEAD_CURSOR] as usize,
+            marks: [mark(1), mark(2)],
+            levels: [list(0), list(1), list(2), list(3)],
+            memory: read(&lent.memory, 0),
+            places: (0..count).map(|place| decode_place(lent, place)).collect(),
+            area: lent.area.clone(),
+            slip: None,
+        })
+    }
+
+    /// All the lent memory that this store stands for.
+    pub fn encode(self) -> Lent {
+        let count = self.places.len();
+        let mut lent =
+            Lent { area: self.area, memory: table_bytes(&self.memory), ..Lent::zeroed(0) };
+        lent.cards = self.places.iter().map(encode_card).collect();
+        lent.lists = vec![0; LEVELS * count];
+        lent.head[HEAD_THRESHOLD] = self.threshold as u64;
+        lent.head[HEAD_CURSOR] = self.cursor as u64;
+        for (number, mark) in self.marks.iter().enumerate() {
+            let flag = HEAD_MARKS + 2 * number;
+            lent.head[flag] = u64::from(mark.is_some());
+            lent.head[flag + 1] = mark.unwrap_or(0);
+        }
+        for (level, list) in self.levels.iter().enumerate() {
+            lent.head[HEAD_LENGTHS + level] = list.len() as u64;
+            for (item, place) in lent.lists[level * count..].iter_mut().zip(list) {
+                *item = *place as u16;
+            }
+        }
+        lent
+    }
+
+    /// Whether this store has the given slip planted.
+    pub fn slips(&self, slip: Slip) -> bool {
+        self.slip == Some(slip)
+    }
+
+    /// The mark of level 1 or 2; the other levels have none.
+    pub fn mark(&self, level: usize) -> Option<Key> {
+        self.marks[self.mark_number(level)]
+    }
+
+    pub fn set_mark(&mut self, level: usize, key: Key) {
+        self.marks[self.mark_number(level)] = Some(key);
+    }
+
+    fn mark_number(&self, level: usize) -> usize {
+        if self.slips(Slip::OneMarkForBothLevels) {
+            return 0;
+        }
+        level - 1
+    }
+
+    /// Table and links of a listed place.
+    pub fn live(&self, place: usize) -> (&Entries, &[Link]) {
+        match &self.places[place] {
+            Place::Live { table, links } => (table, links),
+            _ => unreachable!("rule B: a list names live places"),
+        }
+    }
+
+    /// The table of a place that a link names.
+    pub fn frozen(&self, place: usize) -> &Entries {
+        match &self.places[place] {
+            Place::Frozen { table } => table,
+            _ => unreachable!("rule F: a link names frozen places"),
+        }
+    }
+
+    /// From the least to the greatest of a table's own keys and its links' range ends.
+    pub fn span(&self, place: usize) -> (Key, Key) {
+        let (table, links) = self.live(place);
+        let low = links.iter().map(|link| link.low).min();
+        let high = links.iter().map(|link| link.high).max();
+        let (first, last) = (least(table), greatest(table));
+        (low.map_or(first, |low| low.min(first)), high.map_or(last, |high| high.max(last)))
+    }
+
+    /// Writes a table's bytes to a place.
+    pub fn write_bytes(&mut self, place: usize, table: &Entries) {
+        self.area[place * PLACE_BYTES..][..PLACE_BYTES].copy_from_slice(&table_bytes(table));
+    }
+
+    /// Makes a place hold a live table without links.
+    pub fn settle(&mut self, place: usize, table: Entries) {
+        self.write_bytes(place, &table);
+        self.places[place] = Place::Live { table, links: Vec::new() };
+    }
+
+    /// How many places are free.
+    pub fn free(&self) -> usize {
+        self.places.iter().filter(|place| **place == Place::Free).count()
+    }
+}
+
+/// The entries of a place of a sound store.
+fn read(bytes: &[u8], fewest: usize) -> Entries {
+    owned(&read_table(bytes, fewest).expect("rules C and D"))
+}
+
+fn decode_place(lent: &Lent, place: usize) -> Place {
+    let row = &lent.cards[place];
+    match row[ROW_STATE] {
+        STATE_LIVE => Place::Live {
+            table: read(lent.place(place), 1),
+            links: row[ROW_LINKS..]
+                .chunks(3)
+                .take(row[ROW_COUNT] as usize)
+                .map(decode_link)
+                .collect(),
+        },
+        STATE_FROZEN => Place::Frozen { table: read(lent.place(place), 1) },
+        _ => Place::Free,
+    }
+}
+
+fn decode_link(words: &[u64]) -> Link {
+    Link { place: words[0] as usize, low: words[1], high: words[2] }
+}
+
+fn encode_card(place: &Place) -> Row {
+    let mut row = Row::default();
+    match place {
+        Place::Free => row[ROW_STATE] = STATE_FREE,
+        Place::Frozen { .. } => row[ROW_STATE] = STATE_FROZEN,
+        Place::Live { links, .. } => {
+            row[ROW_STATE] = STATE_LIVE;
+            row[ROW_COUNT] = links.len() as u64;
+            for (words, link) in row[ROW_LINKS..].chunks_mut(3).zip(links) {
+                words.copy_from_slice(&[link.place as u64, link.low, link.high]);
+            }
+        }
+    }
+    row
+}
+
+/// A new store over an area whose bytes stay as found.
+pub fn new_store(area: Vec<u8>, threshold: usize) -> Store {
+    Store {
+        threshold,
+        cursor: 0,
+        marks: [None, None],
+        levels: Default::default(),
+        memory: Entries::new(),
+        places: vec![Place::Free; area.len() / PLACE_BYTES],
+        area,
+        slip: None,
+    }
+}

@@ -1,0 +1,140 @@
+//! Every planted slip is caught: by the judge alone where demand 3 can see it, and by comparison.
+
+use crate::common::{announce, on_two_threads};
+use reference::generate::keys::Keys;
+use reference::generate::planted::planted;
+use reference::generate::profile::{Source, PROFILES};
+use reference::generate::random::Random;
+use reference::implementation::Reference;
+use reference::lent::Lent;
+use reference::slip::Slip;
+use reference::trial::{Eyes, Trial};
+
+/// Slips that the judge need not see, and why; a comparison has to catch them.
+const UNSEEN_BY_JUDGE: &[(Slip, &str)] = &[
+    (Slip::ReportCountsFrozenNotLinks, "demand 3 does not measure reports"),
+    (Slip::EmptyFlushWantsPlace, "demand 3 does not measure the result of a flush"),
+    (Slip::LevelAfterStepReplied, "demand 3 does not measure the reply of a tidy"),
+    (Slip::StopWithRoomLeft, "demand 3 takes the requests served as they are"),
+    (Slip::FreedPlaceCleared, "demand 3 does not measure the bytes of free places"),
+    (
+        Slip::CursorAtTakenPlace,
+        "the place just taken is not free, so the next one taken is the same",
+    ),
+    (
+        Slip::MarkSetByMergeInPlaceOfChoice,
+        "shows in a much later choice among several tables without links, if at all",
+    ),
+];
+
+/// The same where the judge looks at all replies and the whole book.
+const UNSEEN_BY_BOOK: &[(Slip, &str)] = &[
+    (Slip::StopWithRoomLeft, "the judge takes the requests served as they are"),
+    (Slip::FreedPlaceCleared, "the judge does not know the bytes of free places"),
+];
+
+/// Histories that a mutant may live through before it counts as not caught.
+const HISTORIES: u64 = 1500;
+
+/// The same for slips that these eyes need not see.
+const HISTORIES_UNSEEN: u64 = 60;
+
+/// How a mutant was caught: after how many requests, and in what words.
+struct Catch {
+    requests: u64,
+    words: String,
+}
+
+/// Begins a history: mostly short ones on planted stores, where a few tidies show most.
+/// Gives the history, its requests and how many runs it has.
+fn history(subject: &Reference, eyes: Eyes, number: u64) -> (Trial<'_>, Source, usize) {
+    let mut random = Random::new(7_000_000 + number);
+    let turn = number as usize;
+    let keys = [Keys::Dense(300), Keys::Wide(500), Keys::Edges(150)][turn % 3];
+    let places = [16, 24, 40, 64, 96][turn / 3 % 5];
+    if number % 10 == 9 {
+        let threshold = 1 + number / 10 % 8;
+        let trial = Trial::of_new_store(subject, eyes, Lent::zeroed(places), threshold);
+        let profile = PROFILES[turn / 10 % PROFILES.len()];
+        return (trial.expect("no slip is in make"), Source::new(profile, keys, number), 300);
+    }
+    let lent = planted(&mut random, places, keys).encode();
+    let profile = PROFILES[[4, 4, 0, 1][turn % 4]];
+    (Trial::of_sound_store(subject, eyes, lent), Source::new(profile, keys, number), 24)
+}
+
+/// Runs a mutant through histories until these eyes find something.
+fn catch(slip: Slip, eyes: Eyes) -> Option<Catch> {
+    let subject = Reference { slip: Some(slip) };
+    let need_not_see = match eyes {
+        Eyes::Judge => unseen(slip, UNSEEN_BY_JUDGE),
+        Eyes::WholeBook => unseen(slip, UNSEEN_BY_BOOK),
+        _ => false,
+    };
+    let mut requests = 0;
+    for number in 0..if need_not_see { HISTORIES_UNSEEN } else { HISTORIES } {
+        let (mut trial, mut source, runs) = history(&subject, eyes, number);
+        for run in 0..runs {
+            // Two requests now and then, so that a stop has something to stop before.
+            let (count, room) = if run % 16 == 0 { (2, 1030) } else { (1, 1024) };
+            if let Err(finding) = trial.run(&source.list(count), room) {
+                return Some(Catch { requests: requests + trial.served, words: finding.words });
+            }
+        }
+        requests += trial.served;
+    }
+    None
+}
+
+fn unseen(slip: Slip, known: &[(Slip, &str)]) -> bool {
+    known.iter().any(|(unseen, _)| *unseen == slip)
+}
+
+/// The eyes that each mutant is shown to.
+const ALL_EYES: [Eyes; 3] = [Eyes::Judge, Eyes::WholeBook, Eyes::Comparison];
+
+/// A line of the table: the slip, after how many requests each pair of eyes saw it, and what.
+fn line(slip: Slip, catches: &[Option<Catch>; 3]) -> String {
+    let after = |catch: &Option<Catch>| {
+        let requests = catch.as_ref().map_or("-".into(), |catch| catch.requests.to_string());
+        format!("{requests:>12}")
+    };
+    let words = catches.iter().flatten().next().map_or("", |catch| &catch.words);
+    let words: String = words.chars().take(60).collect();
+    format!("{:<30}{}  {words}", format!("{slip:?}"), catches.each_ref().map(after).concat())
+}
+
+#[test]
+fn every_mutant_is_caught() {
+    let caught = on_two_threads(Slip::ALL, |slip| ALL_EYES.map(|eyes| catch(*slip, eyes)));
+    announce("caught after so many requests by      judge  whole book  comparison");
+    for (slip, catches) in Slip::ALL.iter().zip(&caught) {
+        announce(&line(*slip, catches));
+    }
+    for (slip, [judge, whole_book, comparison]) in Slip::ALL.iter().zip(&caught) {
+        assert!(comparison.is_some(), "{slip:?} is not caught by comparison");
+        let by_judge = judge.is_some() || unseen(*slip, UNSEEN_BY_JUDGE);
+        assert!(by_judge, "{slip:?} is not caught by the judge");
+        let by_book = whole_book.is_some() || unseen(*slip, UNSEEN_BY_BOOK);
+        assert!(by_book, "{slip:?} is not caught by the whole book");
+    }
+}
+
+/// All source files of the store's code, as one text.
+fn sources() -> String {
+    let directory = std::path::Path::new(env!("CARGO_MANIFEST_DIR")).join("src");
+    let files = std::fs::read_dir(directory).expect("the sources are there");
+    let paths = files.map(|file| file.expect("a file can be named").path());
+    let rust = paths.filter(|path| path.extension().is_some_and(|end| end == "rs"));
+    rust.map(|path| std::fs::read_to_string(path).expect("a source can be read")).collect()
+}
+
+#[test]
+fn every_slip_is_consulted_in_one_place() {
+    let sources = sources();
+    for slip in Slip::ALL {
+        let name = format!("Slip::{slip:?}");
+        let ends = |rest: &&str| !rest.starts_with(|next: char| next.is_alphanumeric());
+        assert_eq!(sources.split(&name).skip(1).filter(ends).count(), 1, "{name}");
+    }
+}
