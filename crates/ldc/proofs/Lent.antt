@@ -1,4 +1,5 @@
 -- Lent memory and the store that it shows.
+--   Changes   what is lent of a store with one part changed
 --   Parts   there and back for each piece of the book
 --   Round   a sound store is read back from its memory; sizes
 --   Rules   a sound store's memory breaks no rule
@@ -9,3 +10,4 @@ pub mod Round
 pub mod Rules
 pub mod Shape
 pub mod Shows
+pub mod Changes

@@ -56,6 +56,11 @@ abbrev pub events : Lent → List Call → List Event
 events m [] = []
 events m (c ∷ cs) = eventsOf (c .list) (run m (c .list) (c .answer)) ++ events (run m (c .list) (c .answer) .lent) cs
 
+-- How many the runs say they served.
+abbrev pub servedIn : Lent → List Call → ℕ
+servedIn m [] = 0
+servedIn m (c ∷ cs) = run m (c .list) (c .answer) .served + servedIn (run m (c .list) (c .answer) .lent) cs
+
 -- ---- the latest-write map
 
 -- Values under keys, as entries, keys rising. It is fed the requests and, for puts and deletes alone, the result in the reply.
@@ -140,7 +145,11 @@ pub record Holds (m : Lent) (threshold : ℕ) (es : List Event) (us : List Unmer
 
 -- Demand 3 of the history that begins with making a store over `m` with threshold `t`. The slice list is worked out over other places,
 -- as many, with any bytes: nothing of it is read from the store that was run.
-unfoldable pub Demand3 : (m : Lent) → (t : ℕ) → List Call → (places : List (List ℕ)) → Type 0
-Demand3 m t calls places =
-    Holds (lentAfter (make m t .lent) calls) t (events (make m t .lent) calls)
-    (unmerged (newStore t places) [] (requestsIn (events (make m t .lent) calls)))
+pub record Demand3 (m : Lent) (t : ℕ) (calls : List Call) (places : List (List ℕ)) : Type 0 where
+  -- no request that was served is left out
+  pub complete : length (events (make m t .lent) calls) ≡ servedIn (make m t .lent) calls
+  pub holds : Holds
+      (lentAfter (make m t .lent) calls)
+      t
+      (events (make m t .lent) calls)
+      (unmerged (newStore t places) [] (requestsIn (events (make m t .lent) calls)))

@@ -5,6 +5,7 @@ use Prim.Native.Nat.{ℕ, zero, suc}
 use mathlib.Core.Path.{_≡_, refl, sym, _∙_, ap}
 use mathlib.Core.List.{List, [], _∷_, List·Memᴰ, List·Memᴰ·head, List·Memᴰ·tail}
 use mathlib.Core.Bool.{true}
+use mathlib.Core.Option.{some}
 use native.Mathlib.Omega.{arith}
 use lib.ListN.{length, drop}
 use Rattle.number.specs.Number.{Bytes}
@@ -17,7 +18,7 @@ use Rattle.ldc.specs.Lent.{Lent, placesIn, chop, lentOf, sizesGood}
 use Rattle.ldc.specs.Request.{Request, replyOf}
 use Rattle.ldc.specs.Read.{readOrder}
 use Rattle.ldc.specs.Serve.{serve}
-use Rattle.ldc.specs.Run.{make}
+use Rattle.ldc.specs.Run.{split, make}
 use Rattle.ldc.specs.History.{Call, Event, Unmerged, Answered, fed, events, lentAfter, requestsIn, unmerged, afterStep, stepOf, Holds, Demand3}
 use Rattle.ldc.proofs.Serving.Alike.{alike-new}
 use Rattle.ldc.proofs.Serving.AlikeServe.{unmerged-alike}
@@ -28,7 +29,7 @@ use Rattle.ldc.proofs.Lent.Round.{storeOf-lentOf}
 use Rattle.ldc.proofs.Demand.Mirror.{Mirrors, mirror-answers}
 use Rattle.ldc.proofs.Demand.MirrorKeeps.{mirror-keeps}
 use Rattle.ldc.proofs.Stores.New.{new-links, made, made-sound, made-whole}
-use Rattle.ldc.proofs.Serving.Runs.{History, history}
+use Rattle.ldc.proofs.Serving.Runs.{History, history, history-complete}
 use Rattle.ldc.proofs.Demand.Slices.{Tracks, list-names}
 use Rattle.ldc.proofs.Demand.SlicesKeep.{tracks-keep}
 use Rattle.ldc.proofs.Stores.Sound.{Sound, Whole}
@@ -87,19 +88,23 @@ holds s S W t h es a us T =
 pub demand3 : (m : Lent) (t : ℕ) (calls : List Call) (places : List (List ℕ))
     → sizesGood m ≡ true → thresholdGood t ≡ true → ((c : Call) → List·Memᴰ c calls → Bytes (c .list)) → length places ≡ placesIn (m .area)
     → Demand3 m t calls places
-unfolding Demand3
 demand3 m t calls places z h b n =
     let found : List (List ℕ) = chop (placesIn (m .area)) (m .area) in
     let s : Store = newStore t found in
     let S : Sound s = made-sound m t z h in
     let es : List Event = events (make m t .lent) calls in
     let rs : List Request = requestsIn es in
+    let sent : (c : Call) → List·Memᴰ c calls → (xs : List Request) → split (c .list) ≡ some xs → (r : Request) → List·Memᴰ r xs → Sent r =
+    λ c i xs q. split-bytes (c .list) xs (b c i) q in
     let H : History Sent s es (lentAfter (make m t .lent) calls) =
-    rw (made m t z h) (history Sent keeps whole-keeps s S (made-whole m t z) calls (λ c i xs q. split-bytes (c .list) xs (b c i) q)) in
+    rw (made m t z h) (history Sent keeps whole-keeps s S (made-whole m t z) calls sent) in
     let alike : unmerged (newStore t places) [] rs ≡ unmerged s [] rs =
     unmerged-alike Sent keeps s (newStore t places) [] rs (H .good) S (alike-new t found places (n ∙ sym (length-chop (placesIn (m .area)) (m .area)))) in
     let end : Store = serveList s rs in
     let told : Answered [] es = told-answered s [] es S (new-mirror t found) (H .good) (H .told) in
     let tracks : Tracks end (unmerged s [] rs) = list-tracks s [] rs S (new-tracks t found) (H .good) in
     let kept : end .threshold ≡ t = list-threshold s rs S (H .good) ∙ (unfold newStore in refl) in
-    rw (H .lent, alike) (holds end (H .sound) (H .whole) t kept es told (unmerged s [] rs) tracks)
+    record {
+      complete = rw (made m t z h) (history-complete Sent keeps whole-keeps s S (made-whole m t z) calls sent);
+      holds = rw (H .lent, alike) (holds end (H .sound) (H .whole) t kept es told (unmerged s [] rs) tracks);
+    }

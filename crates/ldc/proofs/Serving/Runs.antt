@@ -1,21 +1,22 @@
 -- From runs over the memory of a sound store to events. Such a memory is never refused by 1 or 5, and shows the store; so a run
 -- serves the list as `Events` says and leaves the memory of the store after it. Runs follow each other by induction on the calls.
 use Prim.Native.Nat.{ℕ, _≤_, _<_}
-use mathlib.Core.Path.{_≡_, refl}
+use mathlib.Core.Path.{_≡_, refl, sym}
 use mathlib.Core.List.{List, [], _∷_, _++_, List·Memᴰ, List·Memᴰ·head, List·Memᴰ·tail, List·Memᴰ·not-nil, List·Memᴰ·append-cases}
 use mathlib.Core.Logic.{⊎-elim}
 use mathlib.Core.Option.{some, none, Option·getD}
+use native.Mathlib.Omega.{arith}
 use borrow.Author.Tests.{lt-ltb, le-ltb, ltb-true, ltb-false}
 use lib.Dec.{ltb}
-use lib.ListN.{length}
+use lib.ListN.{length, length-append}
 use Rattle.ldc.specs.Store.{Store}
 use Rattle.ldc.specs.Lent.{Lent, lentOf}
 use Rattle.ldc.specs.Request.{Request}
 use Rattle.ldc.specs.Serve.{serve}
 use Rattle.ldc.specs.Run.{split, roomLimit, serveAll, Outcome, refusedRun, acceptedRun, run}
-use Rattle.ldc.specs.History.{Call, Event, paired, eventsOf, lentAfter, events, requestsIn}
+use Rattle.ldc.specs.History.{Call, Event, paired, eventsOf, lentAfter, events, servedIn, requestsIn}
 use Rattle.ldc.proofs.Basics.Cases.{cases, maybe}
-use Rattle.ldc.proofs.Serving.Events.{eventsFrom, serveList, Told, requests-append, serveList-append, told-append, events-member, events-store, events-told, events-read}
+use Rattle.ldc.proofs.Serving.Events.{eventsFrom, serveList, Told, requests-append, serveList-append, told-append, events-member, events-store, events-told, events-read, served-count}
 use Rattle.ldc.proofs.Lent.Round.{storeOf-lentOf, sizes-lentOf}
 use Rattle.ldc.proofs.Lent.Rules.{kept-lentOf}
 use Rattle.ldc.proofs.Stores.Sound.{Sound, Whole}
@@ -118,3 +119,29 @@ module _ (Good : Request → Type 0)
       let h = ran s S W (c .list) (c .answer) (g c (List·Memᴰ·head refl)) in
       let k = history (serveList s (requestsIn (eventsOf (c .list) o))) (h .sound) (h .whole) cs (λ d m. g d (List·Memᴰ·tail m)) in
       both-served s (eventsOf (c .list) o) (events (o .lent) cs) (o .lent) (lentAfter (o .lent) cs) h (rw (← h .lent) at k)
+
+  -- No request that was served is left out.
+  run-complete : (s : Store) → Sound s → Whole s → (list answer : List ℕ)
+      → ((rs : List Request) → split list ≡ some rs → (r : Request) → List·Memᴰ r rs → Good r)
+      → length (eventsOf list (run (lentOf s) list answer)) ≡ run (lentOf s) list answer .served
+  run-complete s S W list answer g =
+      cases (ltb (length answer) roomLimit)
+      (λ q. rw (run-short s S W list answer (ltb-true (length answer) roomLimit q), refused-events list 3 (lentOf s) answer))
+      (λ q. maybe (split list)
+      (λ n. rw (run-unsplit s S W list answer (ltb-false (length answer) roomLimit q) n, refused-events list 4 (lentOf s) answer))
+      (λ rs y.
+      let room : roomLimit ≤ length answer = ltb-false (length answer) roomLimit q in
+      rw (run-events s S W list answer room rs y (g rs y), run-served s S W list answer room rs y) (sym (served-count (length answer) s rs))))
+
+  pub history-complete : (s : Store) → Sound s → Whole s → (calls : List Call)
+      → ((c : Call) → List·Memᴰ c calls → (rs : List Request) → split (c .list) ≡ some rs → (r : Request) → List·Memᴰ r rs → Good r)
+      → length (events (lentOf s) calls) ≡ servedIn (lentOf s) calls
+  history-complete s S W [] g = refl
+  history-complete s S W (c ∷ cs) g =
+      let o : Outcome = run (lentOf s) (c .list) (c .answer) in
+      let h = ran s S W (c .list) (c .answer) (g c (List·Memᴰ·head refl)) in
+      let k = history-complete (serveList s (requestsIn (eventsOf (c .list) o))) (h .sound) (h .whole) cs (λ d m. g d (List·Memᴰ·tail m)) in
+      let k′ : length (events (o .lent) cs) ≡ servedIn (o .lent) cs = rw (← h .lent) at k in
+      let a = length-append (eventsOf (c .list) o) (events (o .lent) cs) in
+      let b = run-complete s S W (c .list) (c .answer) (g c (List·Memᴰ·head refl)) in
+      omega arith
