@@ -3,6 +3,7 @@
 --   Zeros      runs of zeros
 --   Form       what `entryForm` says of a kind and a length
 --   Position   where the entries of a table stand, and that all of them lie in the place
+--   Room       what can be reached in a place
 --   Turn       one turn of the loops
 --   Found      a search of the bytes is a search of the entries
 --   Entries    how many entries a place shows, the i-th, the first and the last
@@ -15,6 +16,7 @@ pub mod Tests
 pub mod Zeros
 pub mod Form
 pub mod Position
+pub mod Room
 pub mod Turn
 pub mod Found
 pub mod Entries

@@ -110,6 +110,10 @@ pub position-step : (s : List ℕ) (i : ℕ) → positionIn (i + 1) s ≡ positi
 unfolding positionIn
 position-step s i = rw add-one (position-next i s tableHead)
 
+-- The same of a position in hand: behind the entry at the i-th stands the next.
+pub position-after : (s : List ℕ) (i at len : ℕ) → at ≡ positionIn i s → len ≡ lengthAt s at → at + len ≡ positionIn (i + 1) s
+position-after s i at len e h = cc (position-step s i)
+
 module _ (s : List ℕ) (m : isMemory s ≡ true) where
   -- A memory table's parts.
   pub memory-good : Good 0 s
@@ -132,6 +136,9 @@ module _ (s : List ℕ) (m : isMemory s ≡ true) where
       let f = formed _ _ (a .2) in
       let b = length-bounds in
       record { begins = omega arith; form = a .2; low = f .low; high = f .high; ends = a .3; room = omega arith }
+
+  pub stands-at : (i at : ℕ) → i < countOf s → at ≡ positionIn i s → Stands s at
+  stands-at i at h e = rw e (stands i h)
 
 -- A place's table has the parts of a memory table, and an entry.
 pub table-good : (s : List ℕ) → isTable s ≡ true → Good 1 s

@@ -1,6 +1,7 @@
 -- `get_u16` meets its contract: a number of two bytes fits 16 bits.
 use native.Mathlib.Omega.{arith}
-use Rattle.number.proofs.Laws.{numberAt-bound}
+use lib.Dec.{lit≤}
+use Rattle.number.proofs.Laws.{numberAt-below}
 use Rattle.number.proofs.get_u16.Statement.{statement}
 use Rattle.number.proofs.get_u16.Tie as tie
 
@@ -10,7 +11,7 @@ get-requires c κs = omega arith
 cast-result : tie.Need-cast-result
 cast-result c =
     let a = c .before .before .args in
-    record { fits = rw (c .get .ensures) (numberAt-bound 2 (a .s .now) (a .at) (λ i. c .before .shared-slice-known .given i .fits)) }
+    record { fits = rw (c .get .ensures) (numberAt-below _ 2 (a .s .now) _ (lit≤ tt) (λ i. c .before .shared-slice-known .given i .fits)) }
 
 returns : tie.Need-returns
 returns c = c .get .ensures

@@ -1,10 +1,11 @@
 -- `nth` meets its contract. The loop's invariant: the j-th entry stands at `at`. That this lies in the place is a law of positions.
-use Prim.Native.Nat.{_-_, _≤_}
+use Prim.Native.Nat.{ℕ, _-_, _≤_, _<_, zero-le}
 use mathlib.Core.Path.{_≡_, sym}
-use native.Mathlib.Omega.{arith}
-use borrow.Author.Needs.{needs}
+use mathlib.Core.List.{List}
+use native.Mathlib.Nat.{lt-trans, le-antisymm}
 use Rattle.table.specs.Search.{positionIn}
-use Rattle.table.proofs.Position.{Stands, stands, position-first, position-step}
+use Rattle.table.proofs.Position.{Stands, stands-at, position-first, position-after}
+use Rattle.table.proofs.Room.{wide, one-more, one-less, up-to, length-within, next-fits}
 use Rattle.table.proofs.search.nth.Statement.{statement}
 use Rattle.table.proofs.search.nth.Tie as tie
 
@@ -14,42 +15,40 @@ Inv-loop s i j₀ at₀ j at = (j ≤ i) × (at ≡ positionIn j s)
 abbrev μ-loop : tie.MeasureT-loop
 μ-loop s i j₀ at₀ j at = i - j
 
+-- At the loop's end the position is the one asked for.
+there : (s : List ℕ) (i j at : ℕ) → j ≤ i → i ≤ j → at ≡ positionIn j s → at ≡ positionIn i s
+there s i j at h k e = let same : j ≡ i = le-antisymm h k in rw same at e
+
 loop-holds : tie.Need-loop-holds Inv-loop μ-loop
-loop-holds c = (omega arith, sym (position-first (c .before .args .s .now)))
+loop-holds c = (zero-le, sym (position-first (c .before .args .s .now)))
 
 -- The entry at the loop's position.
 here : (c : tie.In-loop Inv-loop μ-loop) → Stands (c .before .before .before .args .s .now) (c .before .loop .at)
 here c =
     let b = c .before .before .before in
     let l = c .before .loop in
-    rw (l .inv .1) (stands (b .args .s .now) (b .pre .1 .0) (l .j) (omega arith))
+    stands-at (b .args .s .now) (b .pre .1 .0) (l .j) (l .at) (lt-trans (c .loop-test .taken) (b .pre .1 .1)) (l .inv .1)
 
 length-at-requires : tie.Need-length-at-requires Inv-loop μ-loop
-length-at-requires c κs = omega (arith, here c)
+length-at-requires c κs = length-within _ _ (c .before .before .before .pre .0) (here c)
 
 cast-at : tie.Need-cast-at Inv-loop μ-loop
-cast-at c = search needs
+cast-at c = wide (c .length-at .ok)
 
 add-at : tie.Need-add-at Inv-loop μ-loop
-add-at c = omega (arith, here (c .before), c .length-at .ensures)
+add-at c = next-fits _ _ (c .before .before .before .before .pre .0) (here (c .before)) _ (c .length-at .ensures)
 
 add-j : tie.Need-add-j Inv-loop μ-loop
-add-j c = omega arith
+add-j c = one-more _ _ (c .before .loop-test .taken) (c .before .before .before .before .fits .i .fits)
 
 loop-less : tie.Need-loop-less Inv-loop μ-loop
-loop-less c = omega arith
+loop-less c = one-less _ _ (c .before .loop-test .taken)
 
 loop-again : tie.Need-loop-again Inv-loop μ-loop
-loop-again c =
-    let b = c .before .before .before .before in
-    let l = c .before .before .loop in
-    (omega arith, cc (position-step (b .args .s .now) (l .j)))
+loop-again c = (up-to _ _ (c .before .loop-test .taken), position-after _ _ _ _ (c .before .before .loop .inv .1) (c .length-at .ensures))
 
 returns : tie.Need-returns Inv-loop μ-loop
-returns c =
-    let l = c .before .loop in
-    let e : l .j ≡ c .before .before .before .args .i = omega arith in
-    cc
+returns c = there _ _ _ _ (c .before .loop .inv .0) (c .loop-test .left) (c .before .loop .inv .1)
 
 pub nth-spec : {M : Type 1} → statement M
 nth-spec =
