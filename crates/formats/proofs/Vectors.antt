@@ -1,7 +1,7 @@
 -- The bytes of docs/FORMATS.md are those of the definitions. By computing them.
-use Prim.Native.Nat.{ℕ, _+_, _*_, _^_}
+use Prim.Native.Nat.{_+_, _*_, _^_}
 use mathlib.Core.Path.{_≡_, refl}
-use mathlib.Core.List.{List, [], _∷_, _++_}
+use mathlib.Core.List.{[], _∷_, _++_}
 use Rattle.number.specs.Number.{numberAt, bytesOf}
 use Rattle.table.specs.Entry.{entryLength, entryBytes}
 use Rattle.table.specs.Table.{zeros, countOf, entriesBytes, tableLength, tableBytes}

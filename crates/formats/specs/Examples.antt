@@ -1,5 +1,4 @@
 -- The examples of docs/FORMATS.md.
-use Prim.Native.Nat.{ℕ}
 use mathlib.Core.List.{List, [], _∷_}
 use mathlib.Core.Option.{some, none}
 use Rattle.table.specs.Entry.{Entry}

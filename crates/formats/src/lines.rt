@@ -79,7 +79,10 @@ fn finds(place: &[u8])
     find_line(place, 6);
     find_line(place, 7);
     number_line(b"least key of the table:    ", search::least(place).value);
-    number_line(b"greatest key of the table: ", search::greatest(place).value);
+    number_line(
+        b"greatest key of the table: ",
+        search::greatest(place).value,
+    );
 }
 
 // Where a key stands in the table of the two.

@@ -1,9 +1,9 @@
 -- `two` meets its contract: the first entry is put behind none, the second behind the first.
-use mathlib.Core.Path.{_≡_, _∙_}
+use mathlib.Core.Path.{_≡_}
 use mathlib.Core.List.{[], _∷_}
 use borrow.Author.Needs.{needs}
 use Rattle.table.specs.Table.{tableBytes}
-use Rattle.formats.specs.Examples.{aUnder5, theTwo}
+use Rattle.formats.specs.Examples.{aUnder5}
 use Rattle.formats.proofs.Built.{a-appends, mark-appends, a-appended, mark-appended}
 use Rattle.formats.proofs.examples.two.Statement.{statement}
 use Rattle.formats.proofs.examples.two.Tie as tie

@@ -1,13 +1,7 @@
 -- `value` meets its contract: the entry is of the form and fills the slice.
-use Prim.Native.Nat.{ℕ, _≤_}
-use mathlib.Core.Path.{_≡_, _∙_, ap}
-use mathlib.Core.List.{List}
 use native.Mathlib.Omega.{arith}
 use borrow.Author.Needs.{needs}
-use lib.ListN.{length}
-use lib.Seq.{sets}
-use Rattle.table.specs.Entry.{Entry, entryBytes}
-use Rattle.formats.proofs.Built.{a-form, a-made, filled-value}
+use Rattle.formats.proofs.Built.{a-form, filled-value}
 use Rattle.formats.proofs.examples.value.Statement.{statement}
 use Rattle.formats.proofs.examples.value.Tie as tie
 

@@ -1,10 +1,10 @@
 -- `put_byte` meets its contract: a space and the two digits, one behind the other.
-use Prim.Native.Nat.{ℕ, suc, _+_, _/_, _%_, _<_, _≤_}
+use Prim.Native.Nat.{ℕ, suc, _+_, _/_, _%_}
 use mathlib.Core.Path.{_≡_}
 use mathlib.Core.List.{List}
 use native.Mathlib.Omega.{arith}
 use borrow.Author.Needs.{needs}
-use lib.ListN.{length, set, length-set}
+use lib.ListN.{set, length-set}
 use lib.Seq.{sets}
 use Rattle.formats.specs.Hex.{hexDigit, byteText}
 use Rattle.formats.proofs.hex.put_byte.Statement.{statement}

@@ -1,6 +1,6 @@
 -- `clear` meets its contract: the head written over zeros is that of an empty table.
 use Prim.Native.Nat.{ℕ}
-use mathlib.Core.Path.{_≡_, refl, _∙_}
+use mathlib.Core.Path.{_≡_, _∙_}
 use mathlib.Core.List.{List, []}
 use lib.Dec.{lit≤}
 use lib.ListN.{length}

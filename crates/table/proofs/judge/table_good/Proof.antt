@@ -1,7 +1,7 @@
 -- `table_good` meets its contract: the head's tests, the entries and the rest, regrouped as the definition has them.
 -- Each fact is shown over plain numbers and lists first, so that no tactic has to read the records of the whole walk.
 use Prim.Native.Nat.{ℕ, _≤_}
-use mathlib.Core.Path.{_≡_, sym, _∙_}
+use mathlib.Core.Path.{_≡_, sym}
 use mathlib.Core.Bool.{Bool, true, false, _&&_}
 use mathlib.Core.List.{List}
 use borrow.Author.Tests.{leb-true}

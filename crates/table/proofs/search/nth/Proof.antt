@@ -1,5 +1,5 @@
 -- `nth` meets its contract. The loop's invariant: the j-th entry stands at `at`. That this lies in the place is a law of positions.
-use Prim.Native.Nat.{ℕ, _-_, _≤_, _<_, zero-le}
+use Prim.Native.Nat.{ℕ, _-_, _≤_, zero-le}
 use mathlib.Core.Path.{_≡_, sym}
 use mathlib.Core.List.{List}
 use native.Mathlib.Nat.{lt-trans, le-antisymm}
