@@ -23,7 +23,11 @@ fn main() -> ExitCode {
     let threshold = 1 + seed % 4;
     let mut lent = Lent::zeroed(16);
     make(&mut lent, threshold);
-    let mut source = Source::new(PROFILES[seed as usize % PROFILES.len()], KEYS[seed as usize % KEYS.len()], seed);
+    let mut source = Source::new(
+        PROFILES[seed as usize % PROFILES.len()],
+        KEYS[seed as usize % KEYS.len()],
+        seed,
+    );
     let list = source.list(count as usize);
     let outcome = run(&mut lent, &list, 1 << 20);
     line("threshold", [threshold]);

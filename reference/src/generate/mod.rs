@@ -3,6 +3,7 @@
 pub mod broken;
 pub mod damage;
 pub mod features;
+pub mod full;
 pub mod keys;
 pub mod planted;
 pub mod profile;

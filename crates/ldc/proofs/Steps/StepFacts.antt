@@ -95,7 +95,7 @@ module _ (s : Store) where
 
 -- ---- the level and the round
 
-fullest-some : (live : ℕ → ℕ) (ns : List ℕ) (n : ℕ) → fullest live ns ≡ some n → List·Memᴰ n ns × (capacity n < live n)
+pub fullest-some : (live : ℕ → ℕ) (ns : List ℕ) (n : ℕ) → fullest live ns ≡ some n → List·Memᴰ n ns × (capacity n < live n)
 fullest-some live [] n e = absurd (let z : _≡_ {A = ℕ} 0 1 = cc in omega arith)
 fullest-some live (m ∷ ns) n e =
     cases (ltb (capacity m) (live m))

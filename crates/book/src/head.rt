@@ -1,0 +1,147 @@
+// The head of the book: ten words at the edge, a value inside. Threshold, cursor, the marks of levels 1 and 2, four lengths.
+ghost use mathlib.Core.Path.{_≡_};
+ghost use Prim.Native.Nat.{_+_, _<_};
+ghost use lib.ListN.{getD, set};
+ghost use Rattle.ldc.specs.Lent.{markOf};
+ghost use Rattle.book.specs.Head.{headWords, theMark, markIn, marked};
+use key::Key;
+
+// A mark's flag is 1 if there is a key, 0 if none; what flags are lent is kept as it is.
+pub struct Head {
+    pub threshold: u64,
+    pub cursor: usize,
+    pub flag1: u64,
+    pub key1: Key,
+    pub flag2: u64,
+    pub key2: Key,
+    pub length0: usize,
+    pub length1: usize,
+    pub length2: usize,
+    pub length3: usize,
+}
+
+// The mark of a level.
+pub enum Mark {
+    At(Key),
+    Nothing,
+}
+
+// The mark of a flag and a key.
+fn mark_with(flag: u64, key: Key) -> Mark
+    ensures { λ r. ⌜ theMark r ≡ markOf flag (key .value) ⌝ }
+{
+    if flag == 0 {
+        Mark::Nothing
+    } else {
+        Mark::At(key)
+    }
+}
+
+// The head that ten words say.
+pub fn read(words: [u64; 10]) -> Head
+    ensures { λ r. ⌜ headWords r ≡ words ⌝ }
+{
+    Head {
+        threshold: words[0],
+        cursor: words[1] as usize,
+        flag1: words[2],
+        key1: Key { value: words[3] },
+        flag2: words[4],
+        key2: Key { value: words[5] },
+        length0: words[6] as usize,
+        length1: words[7] as usize,
+        length2: words[8] as usize,
+        length3: words[9] as usize,
+    }
+}
+
+impl Head {
+    // Writes the head into ten words.
+    pub fn write(self, words: &mut [u64; 10])
+        ensures { λ _. ⌜ now (words .exit) ≡ headWords self ⌝ }
+    {
+        *words = [
+            self.threshold,
+            self.cursor as u64,
+            self.flag1,
+            self.key1.value,
+            self.flag2,
+            self.key2.value,
+            self.length0 as u64,
+            self.length1 as u64,
+            self.length2 as u64,
+            self.length3 as u64,
+        ];
+    }
+
+    // How many items a level's list has.
+    pub fn length_of(self, level: usize) -> usize
+        requires { ⌜ level < 4 ⌝ }
+        ensures { λ r. ⌜ r ≡ getD (headWords self) (6 + level) 0 ⌝ }
+    {
+        match level {
+            0 => self.length0,
+            1 => self.length1,
+            2 => self.length2,
+            _ => self.length3,
+        }
+    }
+
+    // The same with another length of a level's list.
+    pub fn with_length(mut self, level: usize, n: usize) -> Head
+        requires { ⌜ level < 4 ⌝ }
+        ensures { λ r. ⌜ headWords r ≡ set (headWords self) (6 + level) n ⌝ }
+    {
+        match level {
+            0 => {
+                self.length0 = n;
+                self
+            }
+            1 => {
+                self.length1 = n;
+                self
+            }
+            2 => {
+                self.length2 = n;
+                self
+            }
+            _ => {
+                self.length3 = n;
+                self
+            }
+        }
+    }
+
+    // The mark of a level; levels 0 and 3 have none.
+    pub fn mark_of(self, level: usize) -> Mark
+        ensures { λ r. ⌜ theMark r ≡ markIn (headWords self) level ⌝ }
+    {
+        if level == 1 {
+            let key = self.key1;
+            return mark_with(self.flag1, key);
+        }
+        if level == 2 {
+            let key = self.key2;
+            return mark_with(self.flag2, key);
+        }
+        Mark::Nothing
+    }
+
+    // The same with a mark of level 1 or 2 at this key; level 0 has none.
+    pub fn with_mark(mut self, level: usize, key: Key) -> Head
+        requires { ⌜ level < 3 ⌝ }
+        ensures { λ r. ⌜ headWords r ≡ marked level (key .value) (headWords self) ⌝ }
+    {
+        if level == 1 {
+            self.flag1 = 1;
+            self.key1 = key;
+            return self;
+        }
+        if level == 2 {
+            self.flag2 = 1;
+            self.key2 = key;
+            return self;
+        }
+        self
+    }
+}

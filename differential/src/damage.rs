@@ -1,0 +1,166 @@
+//! Random damage to lent memory: what a worn drive or a wrong host could do to it.
+
+use reference::generate::damage::DAMAGES;
+use reference::generate::random::Random;
+use reference::lent::{Lent, HEAD_LENGTHS, ROW_COUNT, ROW_LINKS};
+use reference::limits::{LEVELS, PLACE_BYTES};
+
+/// One way to damage lent memory.
+type Blow = fn(&mut Lent, &mut Random);
+
+const BLOWS: [Blow; 13] = [
+    flip_in_area,
+    flip_in_table_head,
+    flip_in_row,
+    flip_in_list,
+    flip_in_head,
+    flip_in_memory,
+    cut_table_short,
+    swap_tables,
+    double_list_item,
+    drop_list_item,
+    retarget_link,
+    widen_link,
+    empty_link,
+];
+
+/// One to three blows to a sound store. The first may be one of the named damages, which ask for a sound store.
+pub fn strike(lent: &mut Lent, random: &mut Random) {
+    let mut left = 1 + random.below(3);
+    if random.once_in(8) {
+        named_damage(lent, random);
+        left -= 1;
+    }
+    for _ in 0..left {
+        let blow = BLOWS[random.below(BLOWS.len())];
+        blow(lent, random);
+    }
+}
+
+fn places(lent: &Lent) -> usize {
+    lent.cards.len()
+}
+
+/// One of a number's bits; low ones come often, since they stay near sound values.
+fn some_bit(random: &mut Random, bits: usize) -> usize {
+    let reach = if random.once_in(3) { bits } else { 5 };
+    random.below(reach)
+}
+
+fn flip_in_area(lent: &mut Lent, random: &mut Random) {
+    let byte = random.below(lent.area.len());
+    lent.area[byte] ^= 1 << random.below(8);
+}
+
+/// The first bytes of places are where lengths, counts and first entries stand.
+fn flip_in_table_head(lent: &mut Lent, random: &mut Random) {
+    let byte = random.below(places(lent)) * PLACE_BYTES + random.below(40);
+    lent.area[byte] ^= 1 << random.below(8);
+}
+
+fn flip_in_row(lent: &mut Lent, random: &mut Random) {
+    let place = random.below(places(lent));
+    let (word, bit) = match random.below(3) {
+        0 => (random.below(2), random.below(3)),
+        1 => (random.below(26), random.below(64)),
+        _ => (random.below(8), random.below(8)),
+    };
+    lent.cards[place][word] ^= 1 << bit;
+}
+
+fn flip_in_list(lent: &mut Lent, random: &mut Random) {
+    let level = random.below(LEVELS);
+    let length = (lent.head[HEAD_LENGTHS + level] as usize).min(places(lent));
+    let item =
+        if random.once_in(4) { random.below(places(lent)) } else { random.below(length + 1) };
+    let at = level * places(lent) + item.min(places(lent) - 1);
+    lent.lists[at] ^= 1 << some_bit(random, 16);
+}
+
+fn flip_in_head(lent: &mut Lent, random: &mut Random) {
+    let word = random.below(10);
+    lent.head[word] ^= 1 << some_bit(random, 64);
+}
+
+fn flip_in_memory(lent: &mut Lent, random: &mut Random) {
+    let reach = if random.once_in(3) { 1024 } else { 60 };
+    let byte = random.below(reach);
+    lent.memory[byte] ^= 1 << random.below(8);
+}
+
+fn cut_table_short(lent: &mut Lent, random: &mut Random) {
+    let start = random.below(places(lent)) * PLACE_BYTES;
+    let from = random.below(PLACE_BYTES);
+    lent.area[start + from..start + PLACE_BYTES].fill(0);
+}
+
+fn swap_tables(lent: &mut Lent, random: &mut Random) {
+    let (one, other) = (random.below(places(lent)), random.below(places(lent)));
+    for byte in 0..PLACE_BYTES {
+        lent.area.swap(one * PLACE_BYTES + byte, other * PLACE_BYTES + byte);
+    }
+}
+
+/// A level with items, and where they begin.
+fn some_list(lent: &Lent, random: &mut Random) -> Option<(usize, usize, usize)> {
+    let level = random.below(LEVELS);
+    let length = lent.head[HEAD_LENGTHS + level] as usize;
+    (length > 0 && length < places(lent)).then_some((level, level * places(lent), length))
+}
+
+fn double_list_item(lent: &mut Lent, random: &mut Random) {
+    if let Some((level, start, length)) = some_list(lent, random) {
+        let item = random.below(length);
+        lent.lists[start + length] = lent.lists[start + item];
+        lent.head[HEAD_LENGTHS + level] += 1;
+    }
+}
+
+fn drop_list_item(lent: &mut Lent, random: &mut Random) {
+    if let Some((level, start, length)) = some_list(lent, random) {
+        let item = random.below(length);
+        lent.lists.copy_within(start + item + 1..start + length, start + item);
+        lent.lists[start + length - 1] = 0;
+        lent.head[HEAD_LENGTHS + level] -= 1;
+    }
+}
+
+/// The row and the first word of a random link.
+fn some_link(lent: &Lent, random: &mut Random) -> Option<(usize, usize)> {
+    let linked: Vec<usize> = (0..places(lent))
+        .filter(|&place| (1..=8).contains(&lent.cards[place][ROW_COUNT]))
+        .collect();
+    if linked.is_empty() {
+        return None;
+    }
+    let place = *random.pick(&linked);
+    let link = random.below(lent.cards[place][ROW_COUNT] as usize);
+    Some((place, ROW_LINKS + 3 * link))
+}
+
+fn retarget_link(lent: &mut Lent, random: &mut Random) {
+    if let Some((place, word)) = some_link(lent, random) {
+        lent.cards[place][word] = random.below(places(lent) + 2) as u64;
+    }
+}
+
+fn widen_link(lent: &mut Lent, random: &mut Random) {
+    if let Some((place, word)) = some_link(lent, random) {
+        let (low, high) = (lent.cards[place][word + 1], lent.cards[place][word + 2]);
+        lent.cards[place][word + 1] = low.saturating_sub(1 << random.below(40));
+        lent.cards[place][word + 2] = high.saturating_add(1 << random.below(40));
+    }
+}
+
+fn empty_link(lent: &mut Lent, random: &mut Random) {
+    if let Some((place, word)) = some_link(lent, random) {
+        lent.cards[place][word + 2] =
+            lent.cards[place][word + 1].wrapping_sub(random.below(2) as u64);
+    }
+}
+
+/// One of the damages that the second implementation's own tests know by name.
+fn named_damage(lent: &mut Lent, random: &mut Random) {
+    let damage = &DAMAGES[random.below(DAMAGES.len())];
+    (damage.plant)(lent, random);
+}

@@ -1,0 +1,66 @@
+//! A store that is full of tables and links: what a benchmark of the check needs, at any size.
+
+use super::random::Random;
+use super::requests::any_value;
+use crate::limits::{PLACE_BYTES, TABLE_ENTRIES};
+use crate::store::{new_store, Link, Place, Store};
+use crate::table::{Entries, Entry, Key};
+
+/// Live tables in a group, and frozen ones that hang a slice on each of them.
+const LIVE: usize = 4;
+const FROZEN: usize = 2;
+
+/// Keys that a table's plot takes.
+const PLOT: Key = 1000;
+
+/// Groups of six places on level 3, four live tables with two links each, as many as there is room for.
+pub fn full(random: &mut Random, places: usize) -> Store {
+    let mut store = new_store(vec![0; places * PLACE_BYTES], LIVE);
+    for group in 0..places / (LIVE + FROZEN) {
+        let first = group * (LIVE + FROZEN);
+        for number in 0..LIVE {
+            let low = (group * LIVE + number) as Key * PLOT;
+            store.settle(first + number, spread(random, low, PLOT / TABLE_ENTRIES as Key));
+            store.levels[3].push(first + number);
+        }
+        for place in first + LIVE..first + LIVE + FROZEN {
+            let low = (group * LIVE) as Key * PLOT;
+            let table = spread(random, low, PLOT * LIVE as Key / TABLE_ENTRIES as Key);
+            store.write_bytes(place, &table);
+            store.places[place] = Place::Frozen { table };
+            for number in 0..LIVE {
+                let low = low + number as Key * PLOT;
+                let link = Link { place, low, high: low + PLOT - 1 };
+                if let Place::Live { links, .. } = &mut store.places[first + number] {
+                    links.push(link);
+                }
+            }
+        }
+    }
+    store
+}
+
+/// Sixteen values, one in each step from a key on.
+fn spread(random: &mut Random, low: Key, step: Key) -> Entries {
+    let key = |number: usize, random: &mut Random| {
+        low + number as Key * step + random.below(step as usize) as Key
+    };
+    (0..TABLE_ENTRIES)
+        .map(|number| (key(number, random), Entry::Value(any_value(random))))
+        .collect()
+}
+
+#[cfg(test)]
+mod tests {
+    use super::*;
+    use crate::rules::check;
+
+    #[test]
+    fn a_full_store_is_sound() {
+        for places in [16, 64, 100] {
+            let store = full(&mut Random::new(places as u64), places);
+            assert!(store.free() < LIVE + FROZEN);
+            assert!(check(&store.encode()).broken.is_empty());
+        }
+    }
+}
