@@ -1,0 +1,103 @@
+-- `in_level` meets its contract. The loop's invariant: the least key of all tables is that of the tables from the i-th on.
+use Prim.Native.Nat.{_-_}
+use mathlib.Core.Path.{_≡_, sym, _∙_}
+use native.Mathlib.Omega.{arith}
+use borrow.Author.Needs.{needs}
+use lib.ListN.{length, drop}
+use Rattle.number.specs.Number.{Bytes}
+use Rattle.ldc.proofs.Stores.Spans.{reads}
+use Rattle.read.specs.Shown.{shownBy, readsIn}
+use Rattle.least.specs.Least.{leastFrom}
+use Rattle.least.proofs.LeastLevel.{level-start, level-met, level-passed, level-end}
+use Rattle.least.proofs.in_level.Statement.{statement}
+use Rattle.least.proofs.in_level.Tie as tie
+
+abbrev Inv-loop : tie.InvT-loop
+Inv-loop area cards items from i₀ i =
+    leastFrom (from .value) (readsIn (shownBy area cards) items) ≡ leastFrom (from .value) (reads (shownBy area cards) (drop i items))
+
+abbrev μ-loop : tie.MeasureT-loop
+μ-loop area cards items from i₀ i = length items - i
+
+holder-requires : tie.Need-holder-requires Inv-loop μ-loop
+holder-requires c κs = c .before .before .pre
+
+bytes : (c : tie.After-shared-slice-known Inv-loop μ-loop)
+    → Bytes (c .before .args .area .now)
+bytes c =
+    λ i. omega (arith, c .shared-slice-known .given i)
+
+loop-holds : tie.Need-loop-holds Inv-loop μ-loop
+loop-holds c =
+    let b = (c .before .before .before) in
+    let a = b .args in
+    rw (c .holder .ensures) (level-start (a .area .now) (a .cards .now) (a .items .now) (bytes (c .before .before)) (b .pre .0) (b .pre .1) (a .from .value))
+
+mul-in-sources : tie.Need-mul-in-sources Inv-loop μ-loop
+mul-in-sources c = omega (arith, c .before .before .before .before .before .good)
+
+shared-slice-read-in-sources : tie.Need-shared-slice-read-in-sources Inv-loop μ-loop
+shared-slice-read-in-sources c = omega arith
+
+cast-in-sources : tie.Need-cast-in-sources Inv-loop μ-loop
+cast-in-sources c = omega (arith, c .shared-slice-known3 .given (c .before .before .loop .i))
+
+in-sources-requires : tie.Need-in-sources-requires Inv-loop μ-loop
+in-sources-requires c κs =
+    (c .before .before .before .before .before .before .pre .0, c .before .before .before .before .before .before .pre .1 .listed (c .before .before .loop .i) (c .before .loop-test .taken))
+
+enum-told : tie.Need-enum-told Inv-loop μ-loop
+enum-told c = search needs
+
+returns : tie.Need-returns Inv-loop μ-loop
+returns c =
+    let b = (c .before .before .before .before .before .before .before .before .before) in
+    let a = b .args in
+    let l = c .before .before .before .before .before .loop in
+    let e = rw (c .enum-told .given .1) at (c .before .before .in-sources .ensures) in
+    let m = level-met (a .area .now) (a .cards .now) (a .items .now) (bytes (c .before .before .before .before .before .before .before .before)) (b .pre .0) (b .pre .1) (a .from .value) (l .i) (c .before .before .before .before .loop-test .taken) _ (sym e) in
+    rw (c .enum-told .given .1) (sym (l .inv ∙ m))
+
+enum-told-2 : tie.Need-enum-told-2 Inv-loop μ-loop
+enum-told-2 c = search needs
+
+add-i : tie.Need-add-i Inv-loop μ-loop
+add-i c = omega arith
+
+loop-less : tie.Need-loop-less Inv-loop μ-loop
+loop-less c = omega arith
+
+loop-again : tie.Need-loop-again Inv-loop μ-loop
+loop-again c =
+    let b = (c .before .before .before .before .before .before .before .before .before) in
+    let a = b .args in
+    let l = c .before .before .before .before .before .loop in
+    let e = rw (c .enum-told2 .given .1) at (c .before .before .in-sources .ensures) in
+    l .inv ∙ level-passed (a .area .now) (a .cards .now) (a .items .now) (bytes (c .before .before .before .before .before .before .before .before)) (b .pre .0) (b .pre .1) (a .from .value) (l .i) (c .before .before .before .before .loop-test .taken) (sym e)
+
+returns-2 : tie.Need-returns-2 Inv-loop μ-loop
+returns-2 c =
+    let b = (c .before .before .before .before .before) in
+    let a = b .args in
+    let l = c .before .loop in
+    sym (l .inv ∙ level-end (a .area .now) (a .cards .now) (a .items .now) (bytes (c .before .before .before .before)) (b .pre .0) (b .pre .1) (a .from .value) (l .i) (c .loop-test .left))
+
+pub in-level-spec : {M : Type 1} → statement M
+in-level-spec =
+    tie.close
+    (tie.spec
+    Inv-loop
+    μ-loop
+    holder-requires
+    loop-holds
+    mul-in-sources
+    shared-slice-read-in-sources
+    cast-in-sources
+    in-sources-requires
+    enum-told
+    returns
+    enum-told-2
+    add-i
+    loop-less
+    loop-again
+    returns-2)

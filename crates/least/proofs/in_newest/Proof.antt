@@ -1,0 +1,81 @@
+-- `in_newest` meets its contract. The loop's invariant: the least key of all tables is the lesser of `least` and that of the first i of them.
+use Prim.Native.Nat.{ℕ, _*_, _-_, _≤_}
+use mathlib.Core.Path.{_≡_, sym, _∙_, ap}
+use mathlib.Core.List.{List}
+use native.Mathlib.Omega.{arith}
+use borrow.Author.Needs.{needs}
+use lib.ListN.{length, getD, take}
+use lib.Seq.{take-length}
+use Rattle.table.specs.Limits.{placeSize}
+use Rattle.table.specs.Table.{entries, placeAt}
+use Rattle.read.specs.Shown.{newestIn}
+use Rattle.least.specs.Least.{leastFrom, lesser, theLeast}
+use Rattle.least.proofs.LeastKey.{lesser-none, lesser-assoc, least-turn, least-end}
+use Rattle.least.proofs.in_newest.Statement.{statement}
+use Rattle.least.proofs.in_newest.Tie as tie
+
+abbrev Inv-loop : tie.InvT-loop
+Inv-loop area items from i₀ least₀ i least =
+    (i ≤ length items) × (leastFrom (from .value) (newestIn area items) ≡ lesser (theLeast least) (leastFrom (from .value) (newestIn area (take i items))))
+
+abbrev μ-loop : tie.MeasureT-loop
+μ-loop area items from i₀ least₀ i least = i
+
+loop-holds : tie.Need-loop-holds Inv-loop μ-loop
+loop-holds c =
+    let a = c .before .before .args in
+    (omega arith, ap (λ (ps : List ℕ). leastFrom (a .from .value) (newestIn (a .area .now) ps)) (sym (take-length (a .items .now))))
+
+sub-i : tie.Need-sub-i Inv-loop μ-loop
+sub-i c = omega arith
+
+mul-in-table : tie.Need-mul-in-table Inv-loop μ-loop
+mul-in-table c = omega (arith, c .before .before .before .before .good)
+
+shared-slice-read-in-table : tie.Need-shared-slice-read-in-table Inv-loop μ-loop
+shared-slice-read-in-table c = omega arith
+
+cast-in-table : tie.Need-cast-in-table Inv-loop μ-loop
+cast-in-table c = omega (arith, c .shared-slice-known3 .given (c .before .before .loop .i - 1))
+
+in-table-requires : tie.Need-in-table-requires Inv-loop μ-loop
+in-table-requires c κs = c .before .before .before .before .before .pre (c .before .before .loop .i - 1) (omega arith)
+
+lesser-requires : tie.Need-lesser-requires Inv-loop μ-loop
+lesser-requires c κs = search needs
+
+loop-less : tie.Need-loop-less Inv-loop μ-loop
+loop-less c = omega arith
+
+loop-again : tie.Need-loop-again Inv-loop μ-loop
+loop-again c =
+    let a = c .before .before .before .before .before .before .before .args in
+    let l = c .before .before .before .before .loop in
+    let t = least-turn (λ p. entries (placeAt (p * placeSize) (a .area .now))) (a .items .now) (l .i) 0 (a .from .value) (omega arith) (l .inv .0) in (
+      omega arith,
+      l .inv .1 ∙ rw t (sym (lesser-assoc (theLeast (l .least)) (leastFrom (a .from .value) (entries (placeAt (getD (a .items .now) (l .i - 1) 0 * placeSize) (a .area .now)))) (leastFrom (a .from .value) (newestIn (a .area .now) (take (l .i - 1) (a .items .now)))))
+          ∙ rw (c .lesser .ensures, c .before .in-table .ensures)),
+    )
+
+returns : tie.Need-returns Inv-loop μ-loop
+returns c =
+    let a = c .before .before .before .before .args in
+    let l = c .before .loop in
+    sym (l .inv .1 ∙ rw (least-end (λ p. entries (placeAt (p * placeSize) (a .area .now))) (a .items .now) (l .i) (a .from .value) (omega arith)) (lesser-none (theLeast (l .least))))
+
+pub in-newest-spec : {M : Type 1} → statement M
+in-newest-spec =
+    tie.close
+    (tie.spec
+    Inv-loop
+    μ-loop
+    loop-holds
+    sub-i
+    mul-in-table
+    shared-slice-read-in-table
+    cast-in-table
+    in-table-requires
+    lesser-requires
+    loop-less
+    loop-again
+    returns)

@@ -1,0 +1,92 @@
+-- What a hit says: found in a table, the first of two, and one turn of the walks that go newest first.
+use Prim.Native.Nat.{ℕ, zero, suc, _*_, _-_, _≤_, _<_}
+use mathlib.Core.Path.{_≡_, sym, _∙_, ap}
+use mathlib.Core.Bool.{true, false, _&&_}
+use mathlib.Core.List.{List, [], _∷_, map, reverse, reverse-append}
+use mathlib.Core.Option.{Option, some, none}
+use native.Mathlib.Omega.{arith}
+use lib.Dec.{leb}
+use lib.ListN.{length, getD, take}
+use lib.Seq.{take-suc}
+use Rattle.number.specs.Number.{Bytes}
+use Rattle.table.specs.Limits.{placeSize}
+use Rattle.table.specs.Entry.{Entry}
+use Rattle.table.specs.Table.{entries, placeAt}
+use Rattle.table.specs.Search.{find, findIn, shown, leastKey, greatestKey}
+use Rattle.table.specs.declared.search.Found.the-variants as found
+use Rattle.table.proofs.Position.{Stands}
+use Rattle.table.proofs.Found.{shown-find, find-stands}
+use Rattle.table.proofs.Bounds.{find-below, find-above}
+use Rattle.ldc.specs.Lists.{flat}
+use Rattle.ldc.specs.Store.{within}
+use Rattle.ldc.proofs.Entries.Finds.{orElse, find-append, find-within}
+use Rattle.read.specs.Shown.{Tabled}
+use Rattle.read.specs.Hit.{hitEntry, Seated, Hits}
+use Rattle.read.specs.declared.hit.Hit.{Hit}
+use Rattle.read.specs.declared.hit.Hit.the-variants.{At, Nothing}
+use Rattle.read.proofs.Shows.{place-memory, place-valid}
+
+-- What stands in a table stands whole.
+pub seated-of : (s : List ℕ) (at : ℕ) → Stands s at → Seated s at
+seated-of s at t = record { form = t .form; low = t .low; high = t .high; room = t .room }
+
+-- ---- in a table
+
+pub hit-found : (area : List ℕ) (p k at : ℕ) → Tabled area p → findIn (placeAt (p * placeSize) area) k ≡ found.At at
+    → Hits area (find k (entries (placeAt (p * placeSize) area))) (At p at)
+unfolding shown
+hit-found area p k at t h =
+    let s = placeAt (p * placeSize) area in
+    record {
+      shown = sym (ap (shown s) h) ∙ shown-find s k;
+      seated = (t .within, seated-of s at (find-stands s (place-memory area p t) k at h .0));
+    }
+
+pub hit-none : (area : List ℕ) (o : Option Entry) → o ≡ none → Hits area o Nothing
+hit-none area o e = record { shown = sym e; seated = tt }
+
+pub missed : (area : List ℕ) (p k : ℕ) → findIn (placeAt (p * placeSize) area) k ≡ found.Nothing → find k (entries (placeAt (p * placeSize) area)) ≡ none
+unfolding shown
+missed area p k h = let s = placeAt (p * placeSize) area in sym (shown-find s k) ∙ ap (shown s) h
+
+module _ (area : List ℕ) (p k : ℕ) (b : Bytes area) (t : Tabled area p) where
+  pub none-below : k < leastKey (entries (placeAt (p * placeSize) area)) → find k (entries (placeAt (p * placeSize) area)) ≡ none
+  none-below h = find-below (entries (placeAt (p * placeSize) area)) 0 _ k (place-valid area p b t .keys) h
+
+  pub none-above : greatestKey (entries (placeAt (p * placeSize) area)) < k → find k (entries (placeAt (p * placeSize) area)) ≡ none
+  none-above h = find-above (entries (placeAt (p * placeSize) area)) 0 _ k (place-valid area p b t .keys) h
+
+-- ---- in a slice
+
+pub slice-inside : (k low high : ℕ) (es : List Entry) → (leb low k && leb k high) ≡ true → find k (within low high es) ≡ find k es
+slice-inside k low high es h = find-within k low high es ∙ rw h
+
+pub slice-outside : (k low high : ℕ) (es : List Entry) → (leb low k && leb k high) ≡ false → find k (within low high es) ≡ none
+slice-outside k low high es h = find-within k low high es ∙ rw h
+
+-- ---- the first of two
+
+-- What was met decides; what was missed leaves it to the rest.
+pub met : (area : List ℕ) (a b : Option Entry) (h : Hit) (p at : ℕ) → h ≡ At p at → Hits area a h → Hits area (orElse a b) h
+met area a b h p at e t =
+    let there : a ≡ some _ = sym (t .shown) ∙ ap (hitEntry area) e in
+    record { shown = t .shown ∙ rw there; seated = t .seated }
+
+pub passed : (area : List ℕ) (a b : Option Entry) (h : Hit) → h ≡ Nothing → Hits area a h → orElse a b ≡ b
+passed area a b h e t = let none : a ≡ none = sym (t .shown) ∙ ap (hitEntry area) e in rw none
+
+-- ---- newest first
+
+pub newest-turn {ℓ} : {A : Type ℓ} (f : A → List Entry) (xs : List A) (i : ℕ) (d : A) (k : ℕ) → 0 < i → i ≤ length xs
+    → find k (flat (map f (reverse (take i xs))))
+    ≡ orElse (find k (f (getD xs (i - 1) d))) (find k (flat (map f (reverse (take (i - 1) xs)))))
+newest-turn f xs zero d k h hi = absurd (omega arith)
+newest-turn f xs (suc i) d k h hi =
+    let e : suc i - 1 ≡ i = omega arith in
+    let split : reverse (take (suc i) xs) ≡ getD xs i d ∷ reverse (take i xs) =
+    ap reverse (take-suc xs i d (omega arith)) ∙ reverse-append (take i xs) (getD xs i d ∷ []) in
+    rw (e, split) (find-append k (f (getD xs i d)) (flat (map f (reverse (take i xs)))))
+
+pub newest-end {ℓ} : {A : Type ℓ} (f : A → List Entry) (xs : List A) (i k : ℕ) → i ≤ 0 → find k (flat (map f (reverse (take i xs)))) ≡ none
+unfolding find
+newest-end f xs i k h = let e : i ≡ 0 = omega arith in rw e

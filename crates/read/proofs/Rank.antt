@@ -1,0 +1,113 @@
+-- The search of a level: spans rise, so the tables whose spans end below a key stand in front, and a key is read of the first of the
+-- others or of none.
+use Prim.Native.Nat.{ℕ, zero, suc, _≤_, _<_}
+use mathlib.Core.Path.{_≡_, refl, _∙_, ap}
+use mathlib.Core.List.{List, [], _∷_, map, reverse, append-nil, List·Memᴰ, List·Memᴰ·head, List·Memᴰ·tail}
+use mathlib.Core.Logic.{inr}
+use mathlib.Core.Option.{none}
+use native.Mathlib.Omega.{arith}
+use borrow.Author.Tests.{ltb-true, ltb-false, lt-ltb, le-ltb}
+use lib.Dec.{ltb}
+use lib.ListN.{length, getD}
+use Rattle.number.specs.Number.{Bytes}
+use Rattle.table.specs.Search.{find}
+use Rattle.table.proofs.Tests.{cases}
+use Rattle.ldc.specs.Lists.{flat}
+use Rattle.ldc.specs.Store.{Store, links, table, slice, sources, spanEnd}
+use Rattle.ldc.proofs.Entries.Finds.{orElse, find-append}
+use Rattle.ldc.proofs.Basics.ListLaws.{getD-mem}
+use Rattle.ldc.proofs.Stores.Order.{orElse-none}
+use Rattle.ldc.proofs.Stores.Spans.{Readable, Spans, rise-all, reads, reads-flat, reads-below, read-outside, flat-append}
+use Rattle.read.specs.Shown.{shownBy, Legible, Rising, readsIn}
+use Rattle.read.specs.Level.{rank}
+use Rattle.read.proofs.Shows.{readable}
+
+-- ---- the rank
+
+pub rank-few : (s : Store) (k : ℕ) (ps : List ℕ) → rank s k ps ≤ length ps
+unfolding rank
+rank-few s k [] = omega arith
+rank-few s k (p ∷ ps) = let r = rank-few s k ps in cases (ltb (spanEnd s p) k) (λ q. rw q (omega arith)) (λ q. rw q (omega arith))
+
+-- A table whose span does not end below the key is not in front.
+pub rank-below : (s : Store) (k : ℕ) (ps : List ℕ) (j : ℕ) → j < length ps → k ≤ spanEnd s (getD ps j 0) → rank s k ps ≤ j
+unfolding rank
+rank-below s k [] j h b = absurd (omega arith)
+rank-below s k (p ∷ ps) zero h b = rw (le-ltb (spanEnd s p) k b) (omega arith)
+rank-below s k (p ∷ ps) (suc j) h b =
+    let r = rank-below s k ps j (omega arith) b in
+    cases (ltb (spanEnd s p) k) (λ q. rw q (omega arith)) (λ q. rw q (omega arith))
+
+ends-rise : (s : Store) (low : ℕ) (ps : List ℕ) (j : ℕ) → Spans s low ps → j < length ps → low ≤ spanEnd s (getD ps j 0)
+ends-rise s low [] j h hj = absurd (omega arith)
+ends-rise s low (p ∷ ps) zero h hj = omega (arith, h .0, h .1)
+ends-rise s low (p ∷ ps) (suc j) h hj =
+    let r = ends-rise s (suc (spanEnd s p)) ps j (h .2) (omega arith) in omega (arith, h .0, h .1)
+
+-- One whose span ends below the key is.
+pub rank-above : (s : Store) (low k : ℕ) (ps : List ℕ) (j : ℕ) → Spans s low ps → j < length ps → spanEnd s (getD ps j 0) < k → j < rank s k ps
+unfolding rank
+rank-above s low k [] j h hj b = absurd (omega arith)
+rank-above s low k (p ∷ ps) zero h hj b = rw (lt-ltb (spanEnd s p) k b) (omega arith)
+rank-above s low k (p ∷ ps) (suc j) h hj b =
+    let e = ends-rise s (suc (spanEnd s p)) ps j (h .2) (omega arith) in
+    let r = rank-above s (suc (spanEnd s p)) k ps j (h .2) (omega arith) b in
+    rw (lt-ltb (spanEnd s p) k (omega arith)) (omega arith)
+
+-- ---- what is read
+
+abbrev All : Store → List ℕ → Type 0
+All s ps = (q : ℕ) → List·Memᴰ q ps → Readable s q
+
+passed-by : (s : Store) (k p : ℕ) (ps : List ℕ) → Readable s p → spanEnd s p < k → find k (reads s (p ∷ ps)) ≡ find k (reads s ps)
+passed-by s k p ps r h =
+    find-append k (flat (sources s p)) (reads s ps) ∙ rw (read-outside s p r k (inr h))
+
+reads-at : (s : Store) (low k : ℕ) (ps : List ℕ) → All s ps → Spans s low ps → rank s k ps < length ps
+    → find k (reads s ps) ≡ find k (flat (sources s (getD ps (rank s k ps) 0)))
+unfolding rank
+reads-at s low k [] r h = λ b. absurd (omega arith)
+reads-at s low k (p ∷ ps) r h =
+    cases (ltb (spanEnd s p) k)
+    (λ q. rw q (λ b. passed-by s k p ps (r p (List·Memᴰ·head refl)) (ltb-true _ _ q)
+    ∙ reads-at s (suc (spanEnd s p)) k ps (λ x m. r x (List·Memᴰ·tail m)) (h .2) (omega arith)))
+    (λ q. rw q (λ b. let above : k ≤ spanEnd s p = ltb-false _ _ q in
+    find-append k (flat (sources s p)) (reads s ps)
+    ∙ rw (reads-below s k (suc (spanEnd s p)) ps (λ x m. r x (List·Memᴰ·tail m)) (h .2) (omega arith))
+    (orElse-none (find k (flat (sources s p))))))
+
+reads-none : (s : Store) (k : ℕ) (ps : List ℕ) → All s ps → length ps ≤ rank s k ps → find k (reads s ps) ≡ none
+unfolding rank find
+reads-none s k [] r = λ b. refl
+reads-none s k (p ∷ ps) r =
+    cases (ltb (spanEnd s p) k)
+    (λ q. rw q (λ b. passed-by s k p ps (r p (List·Memᴰ·head refl)) (ltb-true _ _ q)
+    ∙ reads-none s k ps (λ x m. r x (List·Memᴰ·tail m)) (omega arith)))
+    (λ q. rw q (λ b. absurd (omega arith)))
+
+-- What is read of a table: its links, then its own.
+pub sources-parts : (s : Store) (k p : ℕ)
+    → find k (flat (sources s p)) ≡ orElse (find k (flat (map (slice s) (reverse (links s p))))) (find k (table s p))
+unfolding sources
+sources-parts s k p =
+    ap (find k) (flat-append (map (slice s) (reverse (links s p))) (table s p ∷ []))
+    ∙ find-append k (flat (map (slice s) (reverse (links s p)))) (flat (table s p ∷ []))
+    ∙ rw (append-nil (table s p))
+
+-- ---- in lent pieces
+
+module _ (area : List ℕ) (cards : List (List ℕ)) (items : List ℕ) (b : Bytes area) (g : Legible area cards) (r : Rising area cards items) where
+  pub all-readable : (q : ℕ) → List·Memᴰ q items → Readable (shownBy area cards) q
+  all-readable q m =
+      let spot = getD-mem items 0 m in
+      readable area cards g q b (rw (spot .2) at (r .listed (spot .0) (spot .1)))
+
+  pub spans : Spans (shownBy area cards) 0 items
+  spans = rise-all (shownBy area cards) items all-readable (r .rises)
+
+  pub level-at : (k : ℕ) → rank (shownBy area cards) k items < length items
+      → find k (readsIn (shownBy area cards) items) ≡ find k (flat (sources (shownBy area cards) (getD items (rank (shownBy area cards) k items) 0)))
+  level-at k h = ap (find k) (reads-flat (shownBy area cards) items) ∙ reads-at (shownBy area cards) 0 k items all-readable spans h
+
+  pub level-none : (k : ℕ) → length items ≤ rank (shownBy area cards) k items → find k (readsIn (shownBy area cards) items) ≡ none
+  level-none k h = ap (find k) (reads-flat (shownBy area cards) items) ∙ reads-none (shownBy area cards) k items all-readable h

@@ -1,0 +1,90 @@
+-- What legible area and cards show: tables are parts of the area, links are words of the rows.
+use Prim.Native.Nat.{ℕ, suc, _+_, _*_, _-_, _<_, max}
+use mathlib.Core.Path.{_≡_, sym, _∙_, ap}
+use mathlib.Core.Bool.{true}
+use mathlib.Core.List.{List, [], _∷_}
+use native.Mathlib.Omega.{arith}
+use native.Mathlib.Numerals.{add-one}
+use lib.ListN.{length, getD, take, drop}
+use lib.Seq.{drop-cons}
+use Rattle.number.specs.Number.{Bytes}
+use Rattle.number.proofs.Laws.{bytes-take, bytes-drop}
+use Rattle.number.proofs.Sets.{length-part}
+use Rattle.table.specs.Limits.{placeSize}
+use Rattle.table.specs.Table.{entries, placeAt, isTable, isMemory}
+use Rattle.table.specs.Valid.{Valid}
+use Rattle.table.proofs.Position.{table-memory, table-good}
+use Rattle.table.proofs.Encode.{shows-valid}
+use Rattle.table.proofs.Entries.{length-entries}
+use Rattle.ldc.specs.Store.{Link, table, links, slice, within, greatestEnd}
+use Rattle.ldc.specs.Lent.{placesIn, linkCount}
+use Rattle.ldc.proofs.Stores.Spans.{Readable}
+use Rattle.book.specs.Row.{linkAt}
+use Rattle.book.specs.Made.{lent}
+use Rattle.book.proofs.Rows.{link-of, count-of}
+use Rattle.read.specs.Shown.{shownBy, Tabled, Legible}
+use Rattle.read.proofs.Pieces.{bytes-shown, links-shown}
+
+-- ---- one place
+
+-- The part of the area that the code takes.
+pub placed : (area : List ℕ) (p : ℕ) → take (p * placeSize + placeSize - p * placeSize) (drop (p * placeSize) area) ≡ placeAt (p * placeSize) area
+placed area p = let e : p * placeSize + placeSize - p * placeSize ≡ placeSize = omega arith in rw e
+
+pub place-long : (area : List ℕ) (p : ℕ) → Tabled area p → length (placeAt (p * placeSize) area) ≡ placeSize
+place-long area p t = length-part area (p * placeSize) placeSize (t .within)
+
+pub place-memory : (area : List ℕ) (p : ℕ) → Tabled area p → isMemory (placeAt (p * placeSize) area) ≡ true
+place-memory area p t = table-memory (placeAt (p * placeSize) area) (t .good)
+
+pub place-valid : (area : List ℕ) (p : ℕ) → Bytes area → Tabled area p → Valid (entries (placeAt (p * placeSize) area))
+unfolding isTable
+place-valid area p b t =
+    shows-valid (placeAt (p * placeSize) area) (bytes-take placeSize (drop (p * placeSize) area) (bytes-drop (p * placeSize) area b)) (place-long area p t) 1 (t .good)
+
+-- ---- in a store that is shown
+
+module _ (area : List ℕ) (cards : List (List ℕ)) (g : Legible area cards) where
+  whole : length area ≡ placesIn area * placeSize
+  unfolding placesIn
+  whole = omega (arith, g .sized)
+
+  pub table-shown : (p : ℕ) → table (shownBy area cards) p ≡ entries (placeAt (p * placeSize) area)
+  unfolding table
+  table-shown p = ap entries (bytes-shown (lent area cards [] [] []) whole p)
+
+  pub slice-shown : (l : Link) → slice (shownBy area cards) l ≡ within (l .low) (l .high) (entries (placeAt (l .place * placeSize) area))
+  unfolding slice
+  slice-shown l = rw (table-shown (l .place))
+
+  -- A place that holds a table has a card.
+  pub carded : (p : ℕ) → Tabled area p → p < length cards
+  carded p t = omega (arith, g .sized, t .within)
+
+  pub readable : (p : ℕ) → Bytes area → Tabled area p → Readable (shownBy area cards) p
+  readable p b t =
+      record {
+        keys = rw (table-shown p) (place-valid area p b t .keys);
+        some = rw (table-shown p) (omega (arith, length-entries (placeAt (p * placeSize) area), table-good (placeAt (p * placeSize) area) (t .good) .enough));
+      }
+
+  module _ (p : ℕ) (h : p < length cards) where
+    pub links-long : length (links (shownBy area cards) p) ≡ linkCount (getD cards p [])
+    links-long = ap length (links-shown (lent area cards [] [] []) p) ∙ count-of (getD cards p []) (g .rowed p h) (g .counted p h)
+
+    pub link-shown : (i : ℕ) (d : Link) → i < linkCount (getD cards p []) → getD (links (shownBy area cards) p) i d ≡ linkAt (getD cards p []) i
+    link-shown i d hi =
+        rw (links-shown (lent area cards [] [] []) p)
+        (link-of (getD cards p []) i d (omega (arith, count-of (getD cards p []) (g .rowed p h) (g .counted p h))))
+
+-- ---- the end of a span
+
+-- One turn: the greatest of this link's ends and those so far.
+ends-max : (a b : ℕ) (ls : List Link) → greatestEnd (max a b) ls ≡ max b (greatestEnd a ls)
+ends-max a b [] = omega arith
+ends-max a b (l ∷ ls) = let r = ends-max a b ls in omega arith
+
+pub end-turn : (e : ℕ) (ls : List Link) (i : ℕ) (d : Link) → i < length ls
+    → greatestEnd e (drop i ls) ≡ greatestEnd (max e (max (getD ls i d .low) (getD ls i d .high))) (drop (i + 1) ls)
+end-turn e ls i d h =
+    rw (add-one i, drop-cons ls i d h) (sym (ends-max e (max (getD ls i d .low) (getD ls i d .high)) (drop (suc i) ls)))

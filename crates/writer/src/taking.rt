@@ -1,0 +1,51 @@
+// Taking places and writing tables to them.
+ghost use mathlib.Core.Path.{_≡_};
+ghost use Prim.Native.Nat.{_*_, _≤_, _<_};
+ghost use lib.ListN.{length};
+ghost use lib.Seq.{sets};
+ghost use Rattle.table.specs.Limits.{placeSize};
+ghost use Rattle.book.specs.Head.{headWords};
+ghost use Rattle.book.specs.Place.{freeRows};
+ghost use Rattle.writer.specs.Take.{Takes};
+use book::found::Found;
+use book::head::Head;
+use book::place;
+use book::row;
+use table::build;
+use table::limits;
+
+// A place that was taken, and the head after it.
+pub struct Taken {
+    pub place: usize,
+    pub head: Head,
+}
+
+// Takes the first free place from the cursor on, going round: its card becomes live without links, and the cursor the place after it.
+// Every place is taken here.
+pub fn take(cards: &mut [[u64; 26]], mut head: Head) -> Taken
+    requires { ⌜ (head .cursor < length (now cards)) × (1 ≤ freeRows (now cards)) ⌝ }
+    ensures { λ r. ⌜ Takes (now (cards .entry)) (headWords head) (now (cards .exit)) (headWords (r .head)) (r .place) ⌝ }
+{
+    let Found::At(p) = place::first_free(cards, head.cursor) else {
+        return Taken { place: 0, head };
+    };
+    row::set_state(cards, p, row::LIVE);
+    head.cursor = place::next(cards.len(), p);
+    Taken { place: p, head }
+}
+
+// Takes a place and writes a whole table to it; the rest of the area stays.
+pub fn write_table(area: &mut [u8], cards: &mut [[u64; 26]], head: Head, table: &[u8]) -> Taken
+    requires { ⌜
+        (length (now area) ≡ length (now cards) * placeSize)
+        × ((length (now table) ≡ placeSize) × ((head .cursor < length (now cards)) × (1 ≤ freeRows (now cards))))
+        ⌝ }
+    ensures { λ r. ⌜
+        Takes (now (cards .entry)) (headWords head) (now (cards .exit)) (headWords (r .head)) (r .place)
+        × (now (area .exit) ≡ sets (now (area .entry)) (r .place * placeSize) (now (table .entry)))
+        ⌝ }
+{
+    let taken = take(cards, head);
+    build::write_place(area, taken.place * limits::PLACE_SIZE, table);
+    taken
+}
