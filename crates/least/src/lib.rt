@@ -56,7 +56,7 @@ fn in_memory(s: &[u8], from: Key) -> Least
 }
 
 // In a place's table.
-fn in_table(area: &[u8], p: usize, from: Key) -> Least
+pub fn in_table(area: &[u8], p: usize, from: Key) -> Least
     requires { ⌜ Tabled (now area) p ⌝ }
     ensures { λ r. ⌜ point.theLeast r ≡ point.leastFrom (from .value) (entries (placeAt (p * placeSize) (now (area .entry)))) ⌝ }
 {

@@ -108,13 +108,13 @@ module _ (s : Store) where
 -- ---- what a plan tells
 
 -- The table that is planned for stands on its level, and may be merged or taken down.
-pub Planned : Store → Plan → Type 0
+abbrev pub Planned : Store → Plan → Type 0
 Planned s Idle = Unit {0}
 Planned s (Down n p) = Chosen s n p
 Planned s (Merge n p) = Merging s n p
 
 pub plan-tells : (s : Store) → Sound s → Planned s (planOf s)
-unfolding planOf levelPlan Planned
+unfolding planOf levelPlan
 plan-tells s S =
     maybe (dueTable s)
     (λ d. maybe (overfull s)

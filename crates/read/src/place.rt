@@ -5,7 +5,7 @@ ghost use lib.ListN.{length};
 ghost use Rattle.table.specs.Limits.{placeSize};
 ghost use Rattle.table.specs.Entry.{kindAt};
 ghost use Rattle.table.specs.Table.{entries, placeAt};
-ghost use Rattle.table.specs.Search.{seekIn, findIn, leastKey, greatestKey};
+ghost use Rattle.table.specs.Search.{findIn, leastKey, greatestKey};
 ghost use Rattle.read.specs.Shown.{Tabled};
 use key::Key;
 use table::entry;
@@ -21,16 +21,6 @@ pub fn find(area: &[u8], p: usize, key: Key) -> Found
     let start = p * limits::PLACE_SIZE;
     let end = start + limits::PLACE_SIZE;
     search::find(&area[start..end], key)
-}
-
-// The first entry whose key is not below this one.
-pub fn seek(area: &[u8], p: usize, key: Key) -> Found
-    requires { ⌜ Tabled (now area) p ⌝ }
-    ensures { λ r. ⌜ r ≡ seekIn (placeAt (p * placeSize) (now (area .entry))) (key .value) ⌝ }
-{
-    let start = p * limits::PLACE_SIZE;
-    let end = start + limits::PLACE_SIZE;
-    search::seek(&area[start..end], key)
 }
 
 // The least key.

@@ -40,7 +40,7 @@ overfull-requires c κs =
 
 -- No table is due, so the plan is that of the level.
 levelled : (c : tie.After-overfull)
-    →     let b = c .before .before .before .before .before .before in
+    → let b = c .before .before .before .before .before .before in
     (s : Store) → Booked s (b .args .cards .now) (b .args .lists .now) (headWords (b .args .head)) → planOf s ≡ levelPlan s (theFound (c .overfull .result))
 levelled c s w =
     let b = c .before .before .before .before .before .before in
@@ -60,7 +60,7 @@ returns-2 c s w =
 
 -- The level has a capacity, and tables.
 found : (c : tie.After-known-told2)
-    →     let b = c .before .before .before .before .before .before .before .before .before in
+    → let b = c .before .before .before .before .before .before .before .before .before in
     (c .before .n2 .given .0 .0 < 3) × (0 < liveIn (headWords (b .args .head)) (c .before .n2 .given .0 .0))
 found c =
     let o = c .before .before .before in
@@ -76,7 +76,7 @@ length-of-requires : tie.Need-length-of-requires
 length-of-requires c κs = omega (arith, found c .0)
 
 fits : (c : tie.After-length-of)
-    →     let b = c .before .before .before .before .before .before .before .before .before .before in
+    → let b = c .before .before .before .before .before .before .before .before .before .before in
     c .before .before .n2 .given .0 .0 * length (b .args .cards .now) + c .length-of .result ≤ 4 * length (b .args .cards .now)
 fits c =
     let b = c .before .before .before .before .before .before .before .before .before .before in
@@ -110,7 +110,7 @@ mark-of-requires c κs = search needs
 
 -- The part of the lists that is lent on is the level's items.
 lent-items : (c : tie.After-length-of)
-    →     let a = c .before .before .before .before .before .before .before .before .before .before .args in
+    → let a = c .before .before .before .before .before .before .before .before .before .before .args in
     let n = c .before .before .n2 .given .0 .0 in
     take (n * length (a .cards .now) + c .length-of .result - n * length (a .cards .now)) (drop (n * length (a .cards .now)) (a .lists .now))
     ≡ itemsIn (length (a .cards .now)) (a .lists .now) (headWords (a .head)) n
@@ -126,10 +126,13 @@ choose-requires c κs =
     let n : ℕ = l .before .before .n2 .given .0 .0 in
     let f = found (l .before) in
     let four : n < 4 = omega (arith, f .0) in
-    rw (lent-items l)
-    (listed (a .area .now) (a .cards .now) (a .lists .now) (headWords (a .head)) (b .pre) n four,
-    (items (a .area .now) (a .cards .now) (a .lists .now) (headWords (a .head)) (b .pre) n four,
-    rw (items-long (a .area .now) (a .cards .now) (a .lists .now) (headWords (a .head)) (b .pre) n four) (f .1)))
+    rw (lent-items l) (
+      listed (a .area .now) (a .cards .now) (a .lists .now) (headWords (a .head)) (b .pre) n four,
+      (
+        items (a .area .now) (a .cards .now) (a .lists .now) (headWords (a .head)) (b .pre) n four,
+        rw (items-long (a .area .now) (a .cards .now) (a .lists .now) (headWords (a .head)) (b .pre) n four) (f .1),
+      ),
+    )
 
 returns-3 : tie.Need-returns-3
 returns-3 c s w =

@@ -47,7 +47,7 @@ cast-at : tie.Need-cast-at Inv-loop μ-loop
 cast-at c = search needs
 
 fits : (c : tie.After-length-at Inv-loop μ-loop)
-    →     let list = c .before .before .before .before .before .before .before .args .list .now in
+    → let list = c .before .before .before .before .before .before .before .args .list .now in
     (4 ≤ c .length-at .result) × (c .before .before .before .before .loop .at + c .length-at .result ≤ length list)
 fits c =
     let list = c .before .before .before .before .before .before .before .args .list .now in
@@ -63,11 +63,13 @@ loop-less c = omega (arith, fits c .0, fits c .1)
 loop-again : tie.Need-loop-again Inv-loop μ-loop
 loop-again c =
     let l = c .before .before .before .before .loop in
-    let list = c .before .before .before .before .before .before .before .args .list .now in
-    (fits c .1, l .inv .1,
-    l .inv .2 ∙ ap isSome (rest-turn list (l .at) (c .before .before .before .loop-test .taken) (judged (c .before)))
-    ∙ some-map (requestAt list (l .at)) (rest list (l .at + lengthAt list (l .at)))
-    ∙ ap (λ (n : ℕ). isSome (rest list (l .at + n))) (sym (c .length-at .ensures)))
+    let list = c .before .before .before .before .before .before .before .args .list .now in (
+      fits c .1,
+      l .inv .1,
+      l .inv .2 ∙ ap isSome (rest-turn list (l .at) (c .before .before .before .loop-test .taken) (judged (c .before)))
+          ∙ some-map (requestAt list (l .at)) (rest list (l .at + lengthAt list (l .at)))
+          ∙ ap (λ (n : ℕ). isSome (rest list (l .at + n))) (sym (c .length-at .ensures)),
+    )
 
 returns-3 : tie.Need-returns-3 Inv-loop μ-loop
 returns-3 c =

@@ -41,7 +41,7 @@ first-linked-requires c κs =
 
 -- What the first part gave.
 front : (c : tie.After-first-linked)
-    →     let a = c .before .before .before .before .before .args in
+    → let a = c .before .before .before .before .before .args in
     theFound (c .first-linked .result) ≡ first (linkedBy (a .cards .now) 1 false) (drop (c .before .before .start .result) (a .items .now))
 front c =
     let a = c .before .before .before .before .before .args in
@@ -49,7 +49,7 @@ front c =
 
 -- The round begins where the mark says.
 begun : (c : tie.After-first-linked)
-    →     let a = c .before .before .before .before .before .args in
+    → let a = c .before .before .before .before .before .args in
     (s : Store) → Reads s (a .area .now) → mark s (a .n) ≡ theMark (a .after) → c .before .before .start .result ≡ passed s (mark s (a .n)) (a .items .now)
 begun c s r em =
     let a = c .before .before .before .before .before .args in
@@ -85,7 +85,7 @@ enum-known-p-2 c = search needs
 
 -- The first part gave none.
 missed : (c : tie.After-enum-told)
-    →     let f = c .before .before in
+    → let f = c .before .before in
     let a = f .before .before .before .before .before .args in
     first (linkedBy (a .cards .now) 1 false) (drop (f .before .before .start .result) (a .items .now)) ≡ none
 missed c = sym (front (c .before .before)) ∙ ap theFound (c .enum-told .given .1)

@@ -41,7 +41,7 @@ below-requires c κs = search needs
 
 -- What the test said of the store's table.
 judged : (c : tie.After-below Inv-loop μ-loop)
-    →     let a = c .before .before .before .before .before .before .before .args in
+    → let a = c .before .before .before .before .before .before .before .args in
     let i = c .before .before .before .before .loop .i in
     (s : Store) → Reads s (a .area .now) → c .below .result ≡ ltb (a .key .value) (leastKey (table s (getD (a .items .now) i 0)))
 judged c s r =
@@ -50,11 +50,14 @@ judged c s r =
     c .below .ensures ∙ rw (c .before .least .ensures, r (getD (a .items .now) i 0))
 
 returns : tie.Need-returns Inv-loop μ-loop
-returns c = (omega arith, λ s r.
-    let a = c .before .before .before .before .before .before .before .before .args in
-    let l = c .before .before .before .before .before .loop in
-    let here = passed-here s (a .key .value) (a .items .now) (l .i) (c .before .before .before .before .loop-test .taken) (sym (judged (c .before) s r) ∙ c .if1 .taken) in
-    omega (arith, l .inv .1 s r, here))
+returns c = (
+  omega arith,
+  λ s r.
+      let a = c .before .before .before .before .before .before .before .before .args in
+      let l = c .before .before .before .before .before .loop in
+      let here = passed-here s (a .key .value) (a .items .now) (l .i) (c .before .before .before .before .loop-test .taken) (sym (judged (c .before) s r) ∙ c .if1 .taken) in
+      omega (arith, l .inv .1 s r, here),
+)
 
 add-i : tie.Need-add-i Inv-loop μ-loop
 add-i c = omega arith
@@ -65,15 +68,20 @@ loop-less c = omega arith
 loop-again : tie.Need-loop-again Inv-loop μ-loop
 loop-again c =
     let a = c .before .before .before .before .before .before .before .before .args in
-    let l = c .before .before .before .before .before .loop in
-    (omega arith, λ s r. l .inv .1 s r
-    ∙ passed-turn s (a .key .value) (a .items .now) (l .i) (c .before .before .before .before .loop-test .taken) (sym (judged (c .before) s r) ∙ c .if1 .left))
+    let l = c .before .before .before .before .before .loop in (
+      omega arith,
+      λ s r. l .inv .1 s r
+          ∙ passed-turn s (a .key .value) (a .items .now) (l .i) (c .before .before .before .before .loop-test .taken) (sym (judged (c .before) s r) ∙ c .if1 .left),
+    )
 
 returns-2 : tie.Need-returns-2 Inv-loop μ-loop
-returns-2 c = (omega arith, λ s r.
-    let a = c .before .before .before .before .args in
-    let l = c .before .loop in
-    omega (arith, l .inv .1 s r, passed-end s (a .key .value) (a .items .now) (l .i) (c .loop-test .left)))
+returns-2 c = (
+  omega arith,
+  λ s r.
+      let a = c .before .before .before .before .args in
+      let l = c .before .loop in
+      omega (arith, l .inv .1 s r, passed-end s (a .key .value) (a .items .now) (l .i) (c .loop-test .left)),
+)
 
 pub passed-spec : {M : Type 1} → statement M
 passed-spec =

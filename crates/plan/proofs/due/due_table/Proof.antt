@@ -37,7 +37,7 @@ length-of-requires : tie.Need-length-of-requires Inv-loop μ-loop
 length-of-requires c κs = omega arith
 
 fits : (c : tie.After-length-of Inv-loop μ-loop)
-    →     c .before .before .loop .n * length (c .before .before .before .before .args .cards .now) + c .length-of .result ≤ 4 * length (c .before .before .before .before .args .cards .now)
+    → c .before .before .loop .n * length (c .before .before .before .before .args .cards .now) + c .length-of .result ≤ 4 * length (c .before .before .before .before .args .cards .now)
 fits c =
     part-fits (length (c .before .before .before .before .args .cards .now)) (c .before .before .loop .n) (c .length-of .result) (c .before .loop-test .taken)
     (rw (c .length-of .ensures) (c .before .before .before .before .pre .lengths (c .before .before .loop .n) (c .before .loop-test .taken)))
@@ -59,7 +59,7 @@ part-first-linked-end : tie.Need-part-first-linked-end Inv-loop μ-loop
 part-first-linked-end c = omega (arith, fits c, c .before .before .before .before .pre .sized)
 
 items : (c : tie.After-length-of Inv-loop μ-loop)
-    →     let a = c .before .before .before .before .args in
+    → let a = c .before .before .before .before .args in
     let n = c .before .before .loop .n in
     take (n * length (a .cards .now) + c .length-of .result - n * length (a .cards .now)) (drop (n * length (a .cards .now)) (a .lists .now))
     ≡ itemsIn (length (a .cards .now)) (a .lists .now) (headWords (a .head)) n
@@ -75,7 +75,7 @@ enum-known-p c = search needs
 
 -- One level's part in it.
 turned : (c : tie.After-first-linked Inv-loop μ-loop)
-    →     let a = c .before .before .before .before .before .before .args in
+    → let a = c .before .before .before .before .before .before .args in
     let n = c .before .before .before .before .loop .n in
     (s : Store) → Booked s (a .cards .now) (a .lists .now) (headWords (a .head)) → dueTable s ≡ dueIn s (n ∷ drop n (1 ∷ 2 ∷ 3 ∷ []))
 turned c s b =
@@ -84,7 +84,7 @@ turned c s b =
 
 -- What the level's list gave.
 given : (c : tie.After-first-linked Inv-loop μ-loop)
-    →     let a = c .before .before .before .before .before .before .args in
+    → let a = c .before .before .before .before .before .before .args in
     let n = c .before .before .before .before .loop .n in
     theFound (c .first-linked .result) ≡ first (linkedBy (a .cards .now) (a .head .threshold) true) (itemsIn (length (a .cards .now)) (a .lists .now) (headWords (a .head)) n)
 given c = c .first-linked .ensures ∙ rw (items (c .before .before))
@@ -112,11 +112,14 @@ loop-again c =
     let f = c .before .before in
     let a = f .before .before .before .before .before .before .args in
     let n = f .before .before .before .before .loop .n in
-    let e : n + 1 - 1 ≡ n = omega arith in
-    (omega arith, omega arith, λ s b. turned f s b
-    ∙ due-turn s (a .cards .now) (a .lists .now) (headWords (a .head)) (f .before .before .before .before .before .before .pre) b n (f .before .before .before .loop-test .taken)
-    (a .head .threshold) (f .first-linked .result) (drop n (1 ∷ 2 ∷ 3 ∷ [])) refl (given f) (c .enum-told .given .1)
-    ∙ rw e)
+    let e : n + 1 - 1 ≡ n = omega arith in (
+      omega arith,
+      omega arith,
+      λ s b. turned f s b
+          ∙ due-turn s (a .cards .now) (a .lists .now) (headWords (a .head)) (f .before .before .before .before .before .before .pre) b n (f .before .before .before .loop-test .taken)
+          (a .head .threshold) (f .first-linked .result) (drop n (1 ∷ 2 ∷ 3 ∷ [])) refl (given f) (c .enum-told .given .1)
+          ∙ rw e,
+    )
 
 returns-2 : tie.Need-returns-2 Inv-loop μ-loop
 returns-2 c s b = sym (c .before .loop .inv .2 s b ∙ rw (levels-end (c .before .loop .n) (c .loop-test .left)))

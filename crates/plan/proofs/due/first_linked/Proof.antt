@@ -48,9 +48,11 @@ loop-less c = omega arith
 loop-again : tie.Need-loop-again Inv-loop μ-loop
 loop-again c =
     let a = c .before .before .before .before .before .before .args in
-    let l = c .before .before .before .before .loop in
-    (omega arith, l .inv .1 ∙ first-turn (linkedBy (a .cards .now) (a .least) (a .wanted)) (a .items .now) (l .i) (c .before .before .before .loop-test .taken)
-    (sym (c .before .passes .ensures) ∙ c .if1 .left))
+    let l = c .before .before .before .before .loop in (
+      omega arith,
+      l .inv .1 ∙ first-turn (linkedBy (a .cards .now) (a .least) (a .wanted)) (a .items .now) (l .i) (c .before .before .before .loop-test .taken)
+          (sym (c .before .passes .ensures) ∙ c .if1 .left),
+    )
 
 returns-2 : tie.Need-returns-2 Inv-loop μ-loop
 returns-2 c =

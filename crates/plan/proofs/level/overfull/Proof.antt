@@ -44,13 +44,14 @@ loop-again c =
     let l = c .before .before .before .before .before .loop in
     let head = c .before .before .before .before .before .before .args .head in
     let i : ℕ = l .i in
-    let made = c .prefer .ensures in
-    (omega arith,
-    rw made (prefer-below (liveIn (headWords head)) (i - 1) (theFound (l .best)) (omega arith) (below-some (l .best) (l .inv .1))),
-    ap (λ (n : ℕ). some n) (made ∙ ap (prefer (liveIn (headWords head)) (i - 1)) (l .inv .2))
-    ∙ sym (rw (levels-before i (c .before .before .before .before .loop-test .taken) (l .inv .0))
-    (full-turn (liveIn (headWords head)) (i - 1) (drop i (0 ∷ 1 ∷ 2 ∷ []))
-    (rw (← (c .before .before .before .capacity .ensures), ← (c .before .before .length-of .ensures)) (c .before .if1 .taken)))))
+    let made = c .prefer .ensures in (
+      omega arith,
+      rw made (prefer-below (liveIn (headWords head)) (i - 1) (theFound (l .best)) (omega arith) (below-some (l .best) (l .inv .1))),
+      ap (λ (n : ℕ). some n) (made ∙ ap (prefer (liveIn (headWords head)) (i - 1)) (l .inv .2))
+          ∙ sym (rw (levels-before i (c .before .before .before .before .loop-test .taken) (l .inv .0))
+          (full-turn (liveIn (headWords head)) (i - 1) (drop i (0 ∷ 1 ∷ 2 ∷ []))
+          (rw (← (c .before .before .before .capacity .ensures), ← (c .before .before .length-of .ensures)) (c .before .if1 .taken)))),
+    )
 
 loop-less-2 : tie.Need-loop-less-2 Inv-loop μ-loop
 loop-less-2 c = omega arith
@@ -59,11 +60,13 @@ loop-again-2 : tie.Need-loop-again-2 Inv-loop μ-loop
 loop-again-2 c =
     let l = c .before .before .before .before .loop in
     let head = c .before .before .before .before .before .args .head in
-    let i : ℕ = l .i in
-    (omega arith, l .inv .1,
-    l .inv .2 ∙ sym (rw (levels-before i (c .before .before .before .loop-test .taken) (l .inv .0))
-    (full-skip (liveIn (headWords head)) (i - 1) (drop i (0 ∷ 1 ∷ 2 ∷ []))
-    (rw (← (c .before .before .capacity .ensures), ← (c .before .length-of .ensures)) (c .if1 .left)))))
+    let i : ℕ = l .i in (
+      omega arith,
+      l .inv .1,
+      l .inv .2 ∙ sym (rw (levels-before i (c .before .before .before .loop-test .taken) (l .inv .0))
+          (full-skip (liveIn (headWords head)) (i - 1) (drop i (0 ∷ 1 ∷ 2 ∷ []))
+          (rw (← (c .before .before .capacity .ensures), ← (c .before .length-of .ensures)) (c .if1 .left)))),
+    )
 
 returns : tie.Need-returns Inv-loop μ-loop
 returns c =
