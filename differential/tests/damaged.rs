@@ -12,7 +12,8 @@ use reference::run::{make, run};
 use std::collections::BTreeMap;
 
 const KEYS: [Keys; 3] = [Keys::Dense(300), Keys::Wide(400), Keys::Edges(100)];
-const STORES: usize = 420;
+// Every second one comes out of a history, so that over 200,000 damaged stores do; the others are planted.
+const STORES: usize = 840;
 const DAMAGED_EACH: usize = 500;
 
 /// A sound store out of a history, or planted.
