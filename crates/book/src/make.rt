@@ -6,7 +6,6 @@ ghost use Rattle.ldc.specs.Lent.{Lent, sizesGood};
 ghost use Rattle.ldc.specs.Run.{make};
 ghost use Rattle.book.specs.Made.{lent, made, allFree};
 use crate::row;
-use table::build;
 use table::limits;
 
 // An area has at least and at most so many places.

@@ -17,9 +17,7 @@ use book::row;
 use book::row::Link;
 use key::Key;
 use read::level;
-use table::entry;
 use table::limits;
-use table::search;
 use table::search::Found;
 
 // A key, if there is one.

@@ -11,7 +11,6 @@ ghost use Rattle.ldc.specs.Rules.{spansRise};
 ghost use Rattle.links.specs.Rows.{linksIn, placeOf, tabled, Sized, shown};
 ghost use Rattle.links.specs.Lists.{below};
 use crate::row;
-use table::search;
 
 pub struct Span {
     pub start: u64,

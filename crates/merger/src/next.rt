@@ -14,7 +14,6 @@ use least::Least;
 use read::hit;
 use read::hit::Hit;
 use read::place;
-use table::entry;
 use table::limits;
 
 // The level whose merges drop delete marks.

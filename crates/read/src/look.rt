@@ -21,10 +21,7 @@ use crate::level;
 use crate::reply;
 use book::head::Head;
 use key::Key;
-use table::build;
-use table::entry;
 use table::limits;
-use table::search;
 use table::search::Found;
 
 // The request's kind, and the result where there is no value.

@@ -8,9 +8,7 @@ ghost use Rattle.table.specs.Table.{entries, placeAt};
 ghost use Rattle.table.specs.Search.{findIn, leastKey, greatestKey};
 ghost use Rattle.read.specs.Shown.{Tabled};
 use key::Key;
-use table::entry;
 use table::limits;
-use table::search;
 use table::search::Found;
 
 // The entry with this key.

@@ -14,7 +14,6 @@ ghost use Rattle.read.specs.Tally.{freeIn, frozenIn, linksIn, Counts};
 use crate::reply;
 use book::head::Head;
 use book::row;
-use table::search;
 
 // The request's kind.
 const REPORT: u16 = 7;

@@ -29,8 +29,6 @@ use read::look;
 use read::look::Spot;
 use read::place;
 use read::reply;
-use table::build;
-use table::entry;
 use table::limits;
 
 // The request's kind, and the result where low is above high.

@@ -6,7 +6,6 @@ ghost use mathlib.Core.Bool.{true};
 ghost use Rattle.ldc.specs.Lent.{sizesGood, broken};
 ghost use Rattle.sound.specs.Answer.{Answers, firstLetter};
 use book::make;
-use table::judge;
 
 mod rule_a;
 mod rule_b;

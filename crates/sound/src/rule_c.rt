@@ -9,7 +9,6 @@ ghost use Rattle.ldc.specs.Lent.{cardOf};
 ghost use Rattle.links.specs.Rows.{Sized};
 ghost use Rattle.sound.specs.Links.{walkC};
 use links::row;
-use table::judge;
 
 // Is this place free, or does it hold a table?
 fn place_good(row: &[u64; 26], place: &[u8]) -> bool

@@ -17,8 +17,6 @@ use links::apart;
 use links::list;
 use links::row;
 use links::row::Link;
-use table::entry;
-use table::search;
 use table::search::Found;
 
 // Does a table have an entry with a key from low to high?

@@ -12,8 +12,6 @@ use crate::level;
 use crate::taking;
 use book::head::Head;
 use book::place;
-use table::build;
-use table::search;
 
 // The results of a flush: done, memory empty, no place free.
 const DONE: u16 = 0;

@@ -11,7 +11,6 @@ use book::found::Found;
 use book::head::Head;
 use book::place;
 use book::row;
-use table::build;
 use table::limits;
 
 // A place that was taken, and the head after it.
