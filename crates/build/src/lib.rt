@@ -8,8 +8,8 @@ ghost use lib.Seq.{sets};
 ghost use Rattle.table.specs.Limits.{placeSize, entryHead};
 ghost use Rattle.table.specs.Entry.{entryForm, entryOf, entryBytes};
 ghost use Rattle.table.specs.Table.{zeros, tableBytes, placeAt, appended, Appends};
-use table::limits;
 use key::Key;
+use table::limits;
 
 // Writes all of `src` into `dst` from `at` on.
 pub fn copy(dst: &mut [u8], at: usize, src: &[u8])

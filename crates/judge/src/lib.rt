@@ -5,8 +5,8 @@ ghost use lib.ListN.{length, drop};
 ghost use Rattle.table.specs.Limits.{placeSize, tableHead, tableLimit};
 ghost use Rattle.table.specs.Entry.{entryForm};
 ghost use Rattle.table.specs.Table.{entriesGood, allZero, tableGood, isTable, isMemory};
-use table::limits;
 use key::Key;
+use table::limits;
 
 // May an entry of this kind have this length?
 pub fn entry_form(kind: u16, len: usize) -> bool

@@ -6,9 +6,9 @@ ghost use lib.ListN.{length};
 ghost use Rattle.table.specs.Limits.{placeSize};
 ghost use Rattle.table.specs.Table.{countOf, entries, isTable, isMemory};
 ghost use Rattle.table.specs.Search.{seekIn, findIn, positionIn, leastKey, greatestKey};
+use key::Key;
 use table::limits;
 use table::search::Found;
-use key::Key;
 
 // How many entries the table says it has.
 pub fn count(s: &[u8]) -> usize
