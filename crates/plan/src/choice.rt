@@ -15,7 +15,6 @@ use crate::due;
 use book::found::Found;
 use book::head::Mark;
 use key::Key;
-use read::place;
 
 // How many tables stand before the first whose least own key exceeds this key.
 fn passed(area: &[u8], items: &[u16], key: Key) -> usize
@@ -27,7 +26,7 @@ fn passed(area: &[u8], items: &[u16], key: Key) -> usize
 {
     let mut i = 0;
     while i < items.len() {
-        if key.below(place::least(area, items[i] as usize)) {
+        if key.below(block::least(area, items[i] as usize)) {
             return i;
         }
         i += 1;

@@ -11,7 +11,6 @@ ghost use Rattle.book.specs.Place.{theFound};
 ghost use Rattle.plan.specs.Due.{linkedBy, Items, Lists, Booked, theDue};
 use book::found::Found;
 use book::head::Head;
-use book::row;
 
 // A level and a place on it.
 pub enum Due {

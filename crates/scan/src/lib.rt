@@ -25,10 +25,7 @@ ghost use Rattle.least.specs.Least.{firstOf};
 use book::head::Head;
 use key::Key;
 use least::Least;
-use read::look;
 use read::look::Spot;
-use read::place;
-use read::reply;
 use table::limits;
 
 // The request's kind, and the result where low is above high.
@@ -74,7 +71,7 @@ fn is_value(area: &[u8], memory: &[u8], spot: Spot) -> bool
 {
     match spot {
         Spot::Memory(at) => entry::kind_at(memory, at) != limits::DELETE_MARK,
-        Spot::Place(p, at) => place::kind(area, p, at) != limits::DELETE_MARK,
+        Spot::Place(p, at) => block::kind(area, p, at) != limits::DELETE_MARK,
         Spot::Nothing => false,
     }
 }

@@ -5,7 +5,6 @@ ghost use mathlib.Core.Path.{_≡_};
 ghost use mathlib.Core.Bool.{true};
 ghost use Rattle.ldc.specs.Lent.{sizesGood, broken};
 ghost use Rattle.sound.specs.Answer.{Answers, firstLetter};
-use book::make;
 
 // What a check answers: 0, 1 or 5, and with 5 the letter of a broken rule in ASCII, else 0.
 pub struct Checked {

@@ -5,7 +5,6 @@ ghost use mathlib.Core.Path.{_≡_};
 ghost use Rattle.ldc.specs.Run.{make};
 ghost use Rattle.book.specs.Made.{lent, made};
 ghost use Rattle.sound.specs.Answer.{Answers};
-use book::make;
 
 // Makes a new store in any lent memory: 0, or 1 for sizes, or 2 for a threshold outside 1 to 8; refused, nothing is changed.
 #[no_mangle]
