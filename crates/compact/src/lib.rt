@@ -109,7 +109,7 @@ pub fn tidy(area: &mut [u8], cards: &mut [[u64; 26]], lists: &mut [u16], head: H
         r)
         ⌝ }
 {
-    match plan::make_plan(area, cards, lists, head) {
+    match planner::make_plan(area, cards, lists, head) {
         Plan::Idle => Tidied {
             result: NOTHING_TO_DO,
             step: 0,
