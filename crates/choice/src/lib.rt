@@ -10,10 +10,10 @@ ghost use Rattle.book.specs.Head.{theMark};
 ghost use Rattle.read.specs.Shown.{Listed};
 ghost use Rattle.plan.specs.Due.{Items, Linked};
 ghost use Rattle.plan.specs.Plan.{Reads, choicePlan, levelPlan};
-use plan::Plan;
 use book::found::Found;
 use book::head::Mark;
 use key::Key;
+use plan::Plan;
 
 // How many tables stand before the first whose least own key exceeds this key.
 fn passed(area: &[u8], items: &[u16], key: Key) -> usize

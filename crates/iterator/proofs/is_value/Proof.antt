@@ -5,8 +5,8 @@ use borrow.Author.Needs.{needs}
 use Rattle.table.specs.Limits.{placeSize}
 use Rattle.table.specs.Table.{placeAt}
 use Rattle.least.proofs.Taken.{value-test}
-use Rattle.scan.proofs.is_value.Statement.{statement}
-use Rattle.scan.proofs.is_value.Tie as tie
+use Rattle.iterator.proofs.is_value.Statement.{statement}
+use Rattle.iterator.proofs.is_value.Tie as tie
 
 enum-known-spot : tie.Need-enum-known-spot
 enum-known-spot c = search needs

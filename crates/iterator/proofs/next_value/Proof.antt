@@ -17,15 +17,15 @@ use Rattle.ldc.proofs.Stores.Sound.{Sound}
 use Rattle.book.specs.Head.{headWords}
 use Rattle.book.specs.Made.{lent}
 use Rattle.least.specs.Least.{leastFrom, theLeast}
-use Rattle.scan.specs.Scan.{valued}
+use Rattle.iterator.specs.Next.{valued}
 use Rattle.least.specs.Least.{firstOf}
 use Rattle.least.proofs.LeastKey.{least-found}
 use Rattle.read.proofs.Levels.{sound-kept, levels-kept, order-read}
 use Rattle.least.proofs.Ranges.{within-over}
-use Rattle.scan.proofs.Contents.{none-over, one-over, next-none, next-found, next-passed, next-key}
-use Rattle.scan.proofs.Spotted.{next-nothing}
-use Rattle.scan.proofs.next_value.Statement.{statement}
-use Rattle.scan.proofs.next_value.Tie as tie
+use Rattle.iterator.proofs.Contents.{none-over, one-over, next-none, next-found, next-passed, next-key}
+use Rattle.iterator.proofs.Spotted.{next-nothing}
+use Rattle.iterator.proofs.next_value.Statement.{statement}
+use Rattle.iterator.proofs.next_value.Tie as tie
 
 abbrev Inv-loop : tie.InvT-loop
 Inv-loop area cards lists head memory high k₀ last k =

@@ -9,7 +9,7 @@ use Rattle.table.specs.Entry.{Entry}
 use Rattle.ldc.specs.Lists.{isEmpty}
 use Rattle.ldc.proofs.Basics.Cases.{clash}
 use Rattle.read.specs.Look.{Spots}
-use Rattle.scan.specs.Scan.{isThere, Nexts}
+use Rattle.iterator.specs.Next.{isThere, Nexts}
 use Rattle.least.specs.Least.{firstOf}
 use Rattle.read.specs.declared.look.Spot.{Spot}
 use Rattle.read.specs.declared.look.Spot.the-variants.{Memory, Place, Nothing}

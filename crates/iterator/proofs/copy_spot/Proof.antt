@@ -6,8 +6,8 @@ use borrow.Author.Needs.{needs}
 use Rattle.number.proofs.Sets.{length-part}
 use Rattle.table.specs.Limits.{placeSize}
 use Rattle.read.proofs.Shows.{placed}
-use Rattle.scan.proofs.copy_spot.Statement.{statement}
-use Rattle.scan.proofs.copy_spot.Tie as tie
+use Rattle.iterator.proofs.copy_spot.Statement.{statement}
+use Rattle.iterator.proofs.copy_spot.Tie as tie
 
 enum-known-spot : tie.Need-enum-known-spot
 enum-known-spot c = search needs

@@ -18,7 +18,7 @@ use Rattle.ldc.proofs.Entries.Keys.{keys-gather, keys-keep}
 use Rattle.ldc.proofs.Stores.ReadOrder.{readOrder-keys}
 use Rattle.ldc.proofs.Stores.Sound.{Sound}
 use Rattle.least.specs.Least.{leastFrom}
-use Rattle.scan.specs.Scan.{valued}
+use Rattle.iterator.specs.Next.{valued}
 use Rattle.least.specs.Least.{firstOf}
 use Rattle.least.proofs.LeastKey.{least-gather, least-found}
 use Rattle.least.proofs.Ranges.{within-empty, within-step, found-key}

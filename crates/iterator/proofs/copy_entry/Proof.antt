@@ -3,8 +3,8 @@ use mathlib.Core.Path.{sym, _∙_}
 use native.Mathlib.Omega.{arith}
 use borrow.Author.Needs.{needs}
 use Rattle.least.proofs.Taken.{entry-read, value-long, form-read, length-read}
-use Rattle.scan.proofs.copy_entry.Statement.{statement}
-use Rattle.scan.proofs.copy_entry.Tie as tie
+use Rattle.iterator.proofs.copy_entry.Statement.{statement}
+use Rattle.iterator.proofs.copy_entry.Tie as tie
 
 length-at-requires : tie.Need-length-at-requires
 length-at-requires c κs = omega (arith, c .before .before .pre .1 .0, c .before .before .pre .0)
