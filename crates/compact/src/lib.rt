@@ -9,7 +9,6 @@ ghost use Rattle.book.specs.Made.{lent};
 ghost use Rattle.graft.specs.Merge.{Backed};
 ghost use Rattle.compact.specs.Tidied.{Tidy, Mergeable, Choosable, Does};
 use book::head::Head;
-use book::place;
 use descend::down;
 use graft::merge;
 use merger::tables;
@@ -110,7 +109,7 @@ pub fn tidy(area: &mut [u8], cards: &mut [[u64; 26]], lists: &mut [u16], head: H
         r)
         ⌝ }
 {
-    match plan::make_plan(area, cards, lists, head) {
+    match planner::make_plan(area, cards, lists, head) {
         Plan::Idle => Tidied {
             result: NOTHING_TO_DO,
             step: 0,

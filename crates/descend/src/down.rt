@@ -11,7 +11,6 @@ ghost use Rattle.descend.specs.Down.{Ready, stepNumber};
 use crate::hang;
 use crate::level;
 use book::head::Head;
-use read::place;
 
 // Numbers of the steps.
 pub const MOVED: u16 = 1;
@@ -43,7 +42,7 @@ pub fn go_down(
         ⌝ }
 {
     let places = cards.len();
-    let mark = place::greatest(area, p);
+    let mark = block::greatest(area, p);
     let below = head.length_of(n + 1);
     let item = p as u16;
     if below == 0 {

@@ -10,7 +10,6 @@ ghost use Rattle.ldc.specs.Lent.{rowOf};
 ghost use Rattle.read.specs.Shown.{shownBy, Tabled};
 ghost use Rattle.descend.specs.Range.{keeper, highOf, Below, slicesFrom, sliceAt, hungRow, hungRows};
 use crate::range;
-use book::row;
 use book::row::Link;
 use key::Key;
 use least::Least;

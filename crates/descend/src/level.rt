@@ -10,7 +10,6 @@ ghost use Rattle.book.specs.Head.{headWords};
 ghost use Rattle.descend.specs.Listing.{Fits, Listing};
 use book::found::Found;
 use book::head::Head;
-use book::list;
 use key::Key;
 
 // The chosen table leaves its level; the level's mark becomes the table's greatest own key, level 0 has none. So for every store with

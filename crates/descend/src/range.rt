@@ -5,14 +5,13 @@ ghost use lib.ListN.{length};
 ghost use Rattle.read.specs.Shown.{shownBy, Tabled, Legible, Rising};
 ghost use Rattle.descend.specs.Range.{keeper, lowOf, highOf};
 use key::Key;
-use read::level;
 
 // The table that is responsible for a key: the first whose span does not end below it, or else the last.
 pub fn keeper_of(area: &[u8], cards: &[[u64; 26]], items: &[u16], key: Key) -> usize
     requires { ⌜ Legible (now area) (now cards) × (Rising (now area) (now cards) (now items) × (1 ≤ length (now items))) ⌝ }
     ensures { λ r. ⌜ r ≡ keeper (shownBy (now (area .entry)) (now (cards .entry))) (key .value) (now (items .entry)) ⌝ }
 {
-    let i = level::holder(area, cards, items, key);
+    let i = levels::holder(area, cards, items, key);
     if i < items.len() { i } else { items.len() - 1 }
 }
 
@@ -24,7 +23,7 @@ pub fn low_end(area: &[u8], cards: &[[u64; 26]], items: &[u16], i: usize, from: 
     if i == 0 {
         return from;
     }
-    let end = level::span_end(area, cards, items[i - 1] as usize);
+    let end = levels::span_end(area, cards, items[i - 1] as usize);
     Key {
         value: end.value + 1,
     }
@@ -38,5 +37,5 @@ pub fn high_end(area: &[u8], cards: &[[u64; 26]], items: &[u16], i: usize) -> Ke
     if i + 1 == items.len() {
         return Key::GREATEST;
     }
-    level::span_end(area, cards, items[i] as usize)
+    levels::span_end(area, cards, items[i] as usize)
 }

@@ -8,7 +8,6 @@ ghost use Rattle.table.specs.Table.{tableBytes};
 ghost use Rattle.formats.specs.Examples.{aUnder5, markUnder7, theTwo};
 use key::Built;
 use key::Key;
-use table::build;
 use table::limits;
 
 // The key of line 3 at 1,250 mm.

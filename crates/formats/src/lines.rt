@@ -7,8 +7,6 @@ ghost use Rattle.formats.specs.Examples.{theTwo};
 use crate::examples;
 use crate::hex;
 use key::Key;
-use table::build;
-use table::search;
 use table::search::Found;
 
 // A line of up to 16 bytes.

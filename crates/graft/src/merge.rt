@@ -10,7 +10,6 @@ ghost use Rattle.graft.specs.Merge.{Backed, Merges};
 use crate::release;
 use crate::tables;
 use book::head::Head;
-use book::row;
 use writer::level;
 
 // Does the merge of place p on level n, whose tables are the first k of `out`: they are written and take its place in the level's list; then it

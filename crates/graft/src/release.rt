@@ -5,7 +5,6 @@ ghost use Prim.Native.Nat.{ℕ, _+_, _*_, _<_};
 ghost use lib.ListN.{length, getD};
 ghost use Rattle.ldc.specs.Lent.{linkCount};
 ghost use Rattle.graft.specs.Release.{rowNames, namedIn, releasedOne, releasedIn, placesIn, Clear, AllClear};
-use book::row;
 
 // Does a link of place q's card name place f?
 fn row_names(cards: &[[u64; 26]], q: usize, f: usize) -> bool

@@ -13,13 +13,9 @@ ghost use Rattle.read.specs.Shown.{shownBy, Tabled, Legible, Listed, Rising, ne
 ghost use Rattle.least.specs.Least as point;
 ghost use Rattle.read.specs.Look.{Levels, lowerIn, tablesIn};
 use book::head::Head;
-use book::row;
 use book::row::Link;
 use key::Key;
-use read::level;
-use table::entry;
 use table::limits;
-use table::search;
 use table::search::Found;
 
 // A key, if there is one.
@@ -75,7 +71,7 @@ fn in_slice(area: &[u8], link: Link, from: Key) -> Least
 {
     let low = link.low;
     let high = link.high;
-    let Least::At(k) = in_table(area, link.place, level::later(from, low)) else {
+    let Least::At(k) = in_table(area, link.place, levels::later(from, low)) else {
         return Least::Nothing;
     };
     if k.at_most(high) {
@@ -132,7 +128,7 @@ fn in_level(area: &[u8], cards: &[[u64; 26]], items: &[u16], from: Key) -> Least
         point.theLeast r ≡ point.leastFrom (from .value) (readsIn (shownBy (now (area .entry)) (now (cards .entry))) (now (items .entry)))
         ⌝ }
 {
-    let mut i = level::holder(area, cards, items, from);
+    let mut i = levels::holder(area, cards, items, from);
     while i < items.len() {
         let least = in_sources(area, cards, items[i] as usize, from);
         if let Least::At(_) = least {

@@ -9,7 +9,7 @@ use Rattle.table.specs.Table.{isTable}
 use Rattle.ldc.specs.Lists.{all}
 use Rattle.ldc.specs.Store.{Link, Store, linksOf}
 use Rattle.ldc.specs.Lent.{cardOf, storeOf}
-use Rattle.links.specs.declared.row.Link as declared
+use Rattle.links.specs.declared.card.Link as declared
 
 -- A link in the code is one of the definition.
 abbrev pub linkOf : declared.Link → Link

@@ -1,6 +1,5 @@
-// What the check of a store walks over: rows of cards with their links, level lists, marks of places, spans, and links that are apart.
-pub mod apart;
+// What the check of a store walks over: rows of cards with their links, and level lists; the laws of marks, spans and links that are apart.
+//
+// The crates `marks`, `span` and `apart` have the walks.
+pub mod card;
 pub mod list;
-pub mod marks;
-pub mod row;
-pub mod span;

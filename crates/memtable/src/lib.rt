@@ -13,10 +13,7 @@ ghost use Rattle.ldc.specs.Lists.{isSome};
 ghost use Rattle.memtable.specs.Put.{putIn, below, appends, Room, Puts};
 ghost use Rattle.ldc.specs.Memtable as merged;
 use key::Key;
-use table::build;
-use table::entry;
 use table::limits;
-use table::search;
 use table::search::Found;
 
 // A new key when the memory table holds 16.

@@ -11,10 +11,7 @@ ghost use Rattle.read.specs.Hit.{hitEntry, SeatedHit};
 ghost use Rattle.merger.specs.Merge.{comesOut, mergedIn, fromKey, Leads};
 use key::Key;
 use least::Least;
-use read::hit;
 use read::hit::Hit;
-use read::place;
-use table::entry;
 use table::limits;
 
 // The level whose merges drop delete marks.
@@ -33,7 +30,7 @@ fn comes_out(area: &[u8], n: usize, hit: Hit) -> bool
     ensures { λ r. ⌜ r ≡ comesOut n (hitEntry (now (area .entry)) hit) ⌝ }
 {
     match hit {
-        Hit::At(q, at) => (place::kind(area, q, at) != limits::DELETE_MARK) | !drops_mark(n),
+        Hit::At(q, at) => (block::kind(area, q, at) != limits::DELETE_MARK) | !drops_mark(n),
         Hit::Nothing => false,
     }
 }

@@ -12,8 +12,6 @@ ghost use Rattle.merger.specs.Merge.{mergedIn, tablesOut, bytesOut, from
 use crate::next;
 use key::Key;
 use read::hit::Hit;
-use table::build;
-use table::entry;
 use table::limits;
 
 // Puts the entry at a position of a table behind the last of another.

@@ -1,9 +1,5 @@
-// Reading a sound store: look-up and report, each with its reply to the byte.
+// Reading a sound store: what the lent pieces must be like (specs/Shown), what is found in them, and the laws of both.
 //
-// Nothing here changes the store. What the lent pieces must be like is said in specs/Shown.
+// The crates `block`, `hit`, `levels` and `look` search it, `reply` and `report` answer to the byte. Nothing there changes the store.
 pub mod hit;
-pub mod level;
 pub mod look;
-pub mod place;
-pub mod reply;
-pub mod report;

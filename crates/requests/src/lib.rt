@@ -4,7 +4,6 @@ ghost use Prim.Native.Nat.{_≤_};
 ghost use lib.ListN.{length};
 ghost use Rattle.ldc.specs.Lists.{isSome};
 ghost use Rattle.ldc.specs.Run.{wholeAt, split};
-use table::entry;
 
 // The longest list, in bytes.
 pub const LIST_LIMIT: usize = 65536;

@@ -11,7 +11,6 @@ ghost use Rattle.table.specs.Table.{isMemory};
 ghost use Rattle.ldc.specs.Request.{replyBytes, keyIn, valueIn};
 ghost use Rattle.memtable.specs.Put.{putIn};
 use crate::body;
-use read::reply;
 
 // Writes a reply of six bytes, and gives their number.
 pub fn answer_bare(answer: &mut [u8], at: usize, kind: u16, result: u16) -> usize

@@ -15,8 +15,6 @@ use crate::body;
 use crate::steps;
 use crate::steps::Turn;
 use book::head::Head;
-use read::look;
-use read::report;
 
 // The results of requests that are not served: unknown kind, a body of a wrong length.
 const UNKNOWN_KIND: u16 = 16;

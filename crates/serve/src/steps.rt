@@ -17,7 +17,6 @@ ghost use Rattle.writer.specs.Shown.{Wide};
 ghost use Rattle.serve.specs.Turn.{turn, turned};
 use crate::bare;
 use book::head::Head;
-use read::reply;
 use writer::flush;
 
 // What serving gives: the head after it, and how many bytes the reply has.

@@ -1,19 +1,10 @@
 // Checking a store: any bytes and numbers at all may be lent, and each kind of damage is found by the letter of a broken rule.
 //
-// One file for each rule of document 01, "Sound store"; each assumes no more than what was found before it.
+// One crate for each rule of document 01, "Sound store"; each assumes no more than what was found before it.
 ghost use mathlib.Core.Path.{_≡_};
 ghost use mathlib.Core.Bool.{true};
 ghost use Rattle.ldc.specs.Lent.{sizesGood, broken};
 ghost use Rattle.sound.specs.Answer.{Answers, firstLetter};
-use book::make;
-use table::judge;
-
-mod rule_a;
-mod rule_b;
-mod rule_c;
-mod rule_e;
-mod rule_f;
-mod rule_g;
 
 // What a check answers: 0, 1 or 5, and with 5 the letter of a broken rule in ASCII, else 0.
 pub struct Checked {

@@ -7,7 +7,6 @@ ghost use Rattle.ldc.specs.Run.{make, run, LetterOf};
 ghost use Rattle.book.specs.Made.{lent, made};
 ghost use Rattle.sound.specs.Answer.{Answers};
 ghost use Rattle.store.specs.Ran.{ran};
-use book::make;
 
 pub mod run;
 

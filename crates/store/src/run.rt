@@ -16,10 +16,8 @@ ghost use Rattle.serve.specs.Turn.{turn, turned};
 ghost use Rattle.store.specs.Ran.{ran, requestsIn};
 use book::head;
 use book::head::Head;
-use book::make;
 use serve::dispatch;
 use serve::steps::Turn;
-use table::entry;
 
 // The shortest answer buffer; a run stops before a request when fewer bytes remain.
 pub const ROOM: usize = 1024;

@@ -1,8 +1,6 @@
-// Entries and tables in bytes: the formats of document 01, read, searched, judged and written.
+// Entries and tables in bytes: the formats of document 01, their limits and their laws.
 //
 // docs/FORMATS.md has the layout. The memory table has the form of a place's table, so everything here serves both.
-pub mod build;
-pub mod entry;
-pub mod judge;
+// The crates `entry`, `search`, `judge` and `build` read, search, judge and write them.
 pub mod limits;
 pub mod search;

@@ -11,9 +11,6 @@ ghost use Rattle.writer.specs.Shown.{Wide};
 use crate::level;
 use crate::taking;
 use book::head::Head;
-use book::place;
-use table::build;
-use table::search;
 
 // The results of a flush: done, memory empty, no place free.
 const DONE: u16 = 0;

@@ -10,7 +10,6 @@ ghost use Rattle.book.specs.Head.{headWords};
 ghost use Rattle.writer.specs.Level.{itemsAt, Listing, withItems};
 use book::found::Found;
 use book::head::Head;
-use book::list;
 
 // Puts a place behind the last of level n's list, whose part has so many items.
 pub fn join(lists: &mut [u16], size: usize, head: Head, n: usize, p: u16) -> Head

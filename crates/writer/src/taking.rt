@@ -9,9 +9,6 @@ ghost use Rattle.book.specs.Place.{freeRows};
 ghost use Rattle.writer.specs.Take.{Takes};
 use book::found::Found;
 use book::head::Head;
-use book::place;
-use book::row;
-use table::build;
 use table::limits;
 
 // A place that was taken, and the head after it.

@@ -14,13 +14,13 @@ use Rattle.ldc.specs.Read.{contents}
 use Rattle.book.specs.Head.{headWords}
 use Rattle.book.specs.Made.{lent}
 use Rattle.book.specs.declared.head.Head.{Head}
-use Rattle.scan.specs.Scan.{maybeBytes}
+use Rattle.iterator.specs.Next.{maybeBytes}
 use Rattle.least.specs.Least.{firstOf}
 use Rattle.read.proofs.Levels.{sound-kept}
 use Rattle.least.proofs.Ranges.{Behind, behind, within-over}
-use Rattle.scan.proofs.Contents.{contents-rising}
+use Rattle.iterator.proofs.Contents.{contents-rising}
 use Rattle.scan.proofs.Fills.{Run, run-none, run-turn, run-done, run-full}
-use Rattle.scan.proofs.Spotted.{first-none, first-some}
+use Rattle.iterator.proofs.Spotted.{first-none, first-some}
 use Rattle.scan.proofs.fill.Statement.{statement}
 use Rattle.scan.proofs.fill.Tie as tie
 

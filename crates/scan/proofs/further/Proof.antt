@@ -11,7 +11,7 @@ use Rattle.ldc.specs.Read.{contents}
 use Rattle.book.specs.Head.{headWords}
 use Rattle.book.specs.Made.{lent}
 use Rattle.book.specs.declared.head.Head.{Head}
-use Rattle.scan.proofs.Spotted.{further-none, further-some}
+use Rattle.iterator.proofs.Spotted.{further-none, further-some}
 use Rattle.scan.proofs.further.Statement.{statement}
 use Rattle.scan.proofs.further.Tie as tie
 

@@ -6,7 +6,7 @@ use borrow.Author.Needs.{needs}
 use Rattle.table.specs.Table.{isMemory}
 use Rattle.ldc.specs.Rules.{ruleA, ruleC, ruleE, ruleF}
 use Rattle.ldc.specs.Lent.{Lent, storeOf, keptB, countsGood}
-use Rattle.sound.proofs.RuleLaws.{sized, long-lists, rule-A, rule-B, rule-C, rule-E, rule-F, rule-G, found, kept-C}
+use Rattle.rules.proofs.RuleLaws.{sized, long-lists, rule-A, rule-B, rule-C, rule-E, rule-F, rule-G, found, kept-C}
 use Rattle.sound.proofs.LetterLaws.{letter-A, letter-B, letter-C, letter-D, letter-E, letter-F, letter-G, no-letter}
 use Rattle.sound.proofs.first_broken.Statement.{statement}
 use Rattle.sound.proofs.first_broken.Tie as tie

@@ -1,0 +1,67 @@
+-- `link_apart` meets its contract. The loop's invariant: the link is apart from all if it is from those from the j-th on.
+use Prim.Native.Nat.{_-_}
+use mathlib.Core.Path.{_≡_, refl, sym, _∙_, ap}
+use native.Mathlib.Omega.{arith}
+use borrow.Author.Tests.{not-true, not-false}
+use borrow.Author.Needs.{needs}
+use lib.ListN.{drop}
+use Rattle.ldc.specs.Lists.{all}
+use Rattle.links.specs.Rows.{linkOf, linksIn}
+use Rattle.links.specs.Links.{apartIn}
+use Rattle.links.proofs.RowLaws.{few, links-fails, links-passes}
+use Rattle.links.proofs.Turn.{all-done}
+use Rattle.apart.proofs.link_apart.Statement.{statement}
+use Rattle.apart.proofs.link_apart.Tie as tie
+
+abbrev Inv-loop : tie.InvT-loop
+Inv-loop g row from n j₀ j = all (apartIn (linkOf g)) (drop from (linksIn row)) ≡ all (apartIn (linkOf g)) (drop j (linksIn row))
+
+abbrev μ-loop : tie.MeasureT-loop
+μ-loop g row from n j₀ j = n - j
+
+count-requires : tie.Need-count-requires Inv-loop μ-loop
+count-requires c κs = search needs
+
+loop-holds : tie.Need-loop-holds Inv-loop μ-loop
+loop-holds c = refl
+
+link-at-requires : tie.Need-link-at-requires Inv-loop μ-loop
+link-at-requires c κs = omega (arith, few (c .before .before .before .args .row .now), c .before .before .count .ensures)
+
+links-apart-requires : tie.Need-links-apart-requires Inv-loop μ-loop
+links-apart-requires c κs = search needs
+
+returns : tie.Need-returns Inv-loop μ-loop
+returns c =
+    links-fails (c .before .before .before .before .before .before .args .row .now) (apartIn (linkOf (c .before .before .before .before .before .before .args .g))) (c .before .before .before .before .loop .j) (omega (arith, c .before .before .before .before .before .count .ensures)) (c .before .before .before .before .loop .inv)
+    (ap (apartIn (linkOf (c .before .before .before .before .before .before .args .g))) (sym (c .before .before .link-at .ensures)) ∙ sym (c .before .links-apart .ensures) ∙ not-true _ (c .if1 .taken))
+
+add-j : tie.Need-add-j Inv-loop μ-loop
+add-j c = omega arith
+
+loop-less : tie.Need-loop-less Inv-loop μ-loop
+loop-less c = omega arith
+
+loop-again : tie.Need-loop-again Inv-loop μ-loop
+loop-again c =
+    links-passes (c .before .before .before .before .before .before .args .row .now) (apartIn (linkOf (c .before .before .before .before .before .before .args .g))) (c .before .before .before .before .loop .j) (omega (arith, c .before .before .before .before .before .count .ensures)) (c .before .before .before .before .loop .inv)
+    (ap (apartIn (linkOf (c .before .before .before .before .before .before .args .g))) (sym (c .before .before .link-at .ensures)) ∙ sym (c .before .links-apart .ensures) ∙ not-false _ (c .if1 .left))
+
+returns-2 : tie.Need-returns-2 Inv-loop μ-loop
+returns-2 c = all-done (apartIn (linkOf (c .before .before .before .args .g))) (linksIn (c .before .before .before .args .row .now)) (c .before .loop .j) (omega (arith, c .before .before .count .ensures)) (c .before .loop .inv)
+
+pub link-apart-spec : {M : Type 1} → statement M
+link-apart-spec =
+    tie.close
+    (tie.spec
+    Inv-loop
+    μ-loop
+    count-requires
+    loop-holds
+    link-at-requires
+    links-apart-requires
+    returns
+    add-j
+    loop-less
+    loop-again
+    returns-2)

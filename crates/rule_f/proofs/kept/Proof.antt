@@ -1,0 +1,19 @@
+-- `kept` of rule F meets its contract: the marks are those of all links.
+use borrow.Author.Needs.{needs}
+use Rattle.links.proofs.RowLaws.{blank}
+use Rattle.rules.specs.Links.{walkF}
+use Rattle.rule_f.proofs.kept.Statement.{statement}
+use Rattle.rule_f.proofs.kept.Tie as tie
+
+mark-all-requires : tie.Need-mark-all-requires
+mark-all-requires c κs = search needs
+
+marks-good-requires : tie.Need-marks-good-requires
+marks-good-requires c κs = search needs
+
+returns : tie.Need-returns
+unfolding walkF
+returns c = rw (← blank 4096, ← c .before .before .mark-all .ensures) (c .marks-good .ensures)
+
+pub kept-spec : {M : Type 1} → statement M
+kept-spec = tie.close (tie.spec mark-all-requires marks-good-requires returns)
