@@ -17,7 +17,7 @@ ghost use Rattle.writer.specs.Shown.{Wide};
 ghost use Rattle.serve.specs.Turn.{turn, turned};
 use crate::bare;
 use book::head::Head;
-use writer::flush;
+use compact::flush;
 
 // What serving gives: the head after it, and how many bytes the reply has.
 pub struct Turn {

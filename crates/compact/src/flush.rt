@@ -7,17 +7,13 @@ ghost use Rattle.ldc.specs.Place.{serveFlush};
 ghost use Rattle.book.specs.Head.{headWords};
 ghost use Rattle.book.specs.Made.{lent};
 ghost use Rattle.read.specs.Shown.{Kept};
 ghost use Rattle.writer.specs.Shown.{Wide};
-use crate::level;
-use crate::taking;
+use crate::DONE;
+use crate::NO_ROOM;
+use crate::NOTHING_TO_DO;
 use book::head::Head;
-
-// The results of a flush: done, memory empty, no place free.
-const DONE: u16 = 0;
-
-const NOTHING_TO_DO: u16 = 65;
-
-const NO_ROOM: u16 = 20;
+use writer::level;
+use writer::taking;
 
 // What a flush gives: its result, and the head after it.
 pub struct Flushed {
@@ -25,7 +21,7 @@ pub struct Flushed {
     pub head: Head,
 }
 
-// Flushes the memory table of a kept store; with 65 and 20 nothing changes.
+// Flushes the memory table of a kept store. 65 if it is empty, 20 if no place is free; with both nothing changes.
 pub fn flush(
     area: &mut [u8],
     cards: &mut [[u64; 26]],
