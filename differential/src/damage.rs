@@ -160,7 +160,7 @@ fn empty_link(lent: &mut Lent, random: &mut Random) {
 }
 
 /// One of the damages that the second implementation's own tests know by name.
-fn named_damage(lent: &mut Lent, random: &mut Random) {
+pub fn named_damage(lent: &mut Lent, random: &mut Random) {
     let damage = &DAMAGES[random.below(DAMAGES.len())];
     (damage.plant)(lent, random);
 }

@@ -11,12 +11,18 @@ impl<T: Clone + PartialEq> Guarded<T> {
     pub fn of(inside: &[T], guard: T) -> Guarded<T> {
         let mut all = vec![guard.clone(); GUARDS];
         all.extend_from_slice(inside);
-        all.extend(std::iter::repeat(guard.clone()).take(GUARDS));
+        all.extend(std::iter::repeat_n(guard.clone(), GUARDS));
         Guarded { all, guard }
     }
 
-    pub fn pointer(&mut self) -> *mut T {
-        self.all[GUARDS..].as_mut_ptr()
+    pub fn inside(&mut self) -> *mut [T] {
+        let end = self.all.len() - GUARDS;
+        &mut self.all[GUARDS..end]
+    }
+
+    /// The first element, for what is lent as one.
+    pub fn first(&mut self) -> *mut T {
+        self.inside().cast()
     }
 
     /// The buffer, if all guards are as they were.

@@ -2,48 +2,23 @@
 //! and fails if a byte outside them was touched.
 
 pub mod damage;
+pub mod fuzz;
 pub mod guarded;
+pub mod histories;
+pub mod refused;
 
 use guarded::Guarded;
+use reference::implementation::{Implementation, Ran};
 use reference::lent::Lent;
-
-/// The functions that the static library exports. Nothing checks these lines against the Rattle source; they follow
-/// `crates/store/src/lib.rt`: a slice is a pointer and a count, an array a pointer.
-mod exported {
-    extern "C" {
-        pub fn zilgwern_make(
-            area: *mut u8,
-            area_count: usize,
-            cards: *mut [u64; 26],
-            cards_count: usize,
-            lists: *mut u16,
-            lists_count: usize,
-            head: *mut [u64; 10],
-            memory: *mut [u8; 1024],
-            threshold: u64,
-        ) -> u64;
-
-        pub fn zilgwern_check(
-            area: *const u8,
-            area_count: usize,
-            cards: *const [u64; 26],
-            cards_count: usize,
-            lists: *const u16,
-            lists_count: usize,
-            head: *const [u64; 10],
-            memory: *const [u8; 1024],
-            letter: *mut u64,
-        ) -> u64;
-    }
-}
+use zilgwern_sys::{Head, Row, Table};
 
 /// The lent memory, each piece between guards.
 struct Pieces {
     area: Guarded<u8>,
-    cards: Guarded<[u64; 26]>,
+    cards: Guarded<Row>,
     lists: Guarded<u16>,
-    head: Guarded<[u64; 10]>,
-    memory: Guarded<[u8; 1024]>,
+    head: Guarded<Head>,
+    memory: Guarded<Table>,
 }
 
 impl Pieces {
@@ -54,6 +29,16 @@ impl Pieces {
             lists: Guarded::of(&lent.lists, 0xA5A5),
             head: Guarded::of(&[lent.head], [0xA5A5_A5A5_A5A5_A5A5; 10]),
             memory: Guarded::of(&[lent.memory], [0xA5; 1024]),
+        }
+    }
+
+    fn raw(&mut self) -> zilgwern_sys::Pieces {
+        zilgwern_sys::Pieces {
+            area: self.area.inside(),
+            cards: self.cards.inside(),
+            lists: self.lists.inside(),
+            head: self.head.first(),
+            memory: self.memory.first(),
         }
     }
 
@@ -73,19 +58,7 @@ impl Pieces {
 pub fn make(lent: &mut Lent, threshold: u64) -> u64 {
     let mut pieces = Pieces::of(lent);
     // SAFETY: each pointer comes with the count of the buffer behind it.
-    let number = unsafe {
-        exported::zilgwern_make(
-            pieces.area.pointer(),
-            lent.area.len(),
-            pieces.cards.pointer(),
-            lent.cards.len(),
-            pieces.lists.pointer(),
-            lent.lists.len(),
-            pieces.head.pointer(),
-            pieces.memory.pointer(),
-            threshold,
-        )
-    };
+    let number = unsafe { pieces.raw().make(threshold) };
     *lent = pieces.back();
     number
 }
@@ -95,40 +68,77 @@ pub fn check(lent: &Lent) -> (u64, u64) {
     let mut pieces = Pieces::of(lent);
     let mut letter = 0xA5A5;
     // SAFETY: as above.
-    let number = unsafe {
-        exported::zilgwern_check(
-            pieces.area.pointer(),
-            lent.area.len(),
-            pieces.cards.pointer(),
-            lent.cards.len(),
-            pieces.lists.pointer(),
-            lent.lists.len(),
-            pieces.head.pointer(),
-            pieces.memory.pointer(),
-            &mut letter,
-        )
-    };
+    let number = unsafe { pieces.raw().check(&mut letter) };
     let after = pieces.back();
     assert_eq!(after.difference(lent), None, "check changed what it was lent");
     (number, letter)
 }
 
-/// The same without guards and copies, for timing.
-pub fn check_in_place(lent: &Lent) -> (u64, u64) {
-    let mut letter = 0;
-    // SAFETY: as above; check writes nothing but the letter.
-    let number = unsafe {
-        exported::zilgwern_check(
-            lent.area.as_ptr(),
-            lent.area.len(),
-            lent.cards.as_ptr(),
-            lent.cards.len(),
-            lent.lists.as_ptr(),
-            lent.lists.len(),
-            &lent.head,
-            &lent.memory,
-            &mut letter,
-        )
+/// What `zilgwern_run` gives back, before anything is cut to smaller numbers.
+#[derive(Clone, Copy, PartialEq, Eq, Debug)]
+pub struct Outcome {
+    pub number: u64,
+    pub letter: u64,
+    pub served: u64,
+    pub written: u64,
+}
+
+/// Runs a list. Fails if the call changed the list or touched a byte outside of what it was lent.
+pub fn run(lent: &mut Lent, list: &[u8], answers: &mut [u8]) -> Outcome {
+    let mut pieces = Pieces::of(lent);
+    let mut requests = Guarded::of(list, 0xA5);
+    let mut answer = Guarded::of(answers, 0x5A);
+    let mut outcome = Guarded::of(&[[0xA5A5; 3]], [0xA5A5_A5A5_A5A5_A5A5; 3]);
+    // SAFETY: as above.
+    let number = unsafe { pieces.raw().run(requests.inside(), answer.inside(), outcome.first()) };
+    *lent = pieces.back();
+    assert!(requests.back("requests") == list, "run changed the list");
+    answers.copy_from_slice(&answer.back("answer"));
+    let [letter, served, written] = outcome.back("outcome")[0];
+    Outcome { number, letter, served, written }
+}
+
+/// The proved store, to be led through the second implementation's trials.
+pub struct Proved;
+
+/// A number that must fit a smaller type, so that no high bits go unseen.
+fn narrow<T: TryFrom<u64>>(name: &str, number: u64) -> T {
+    T::try_from(number).unwrap_or_else(|_| panic!("{name} is {number}"))
+}
+
+impl Implementation for Proved {
+    fn make(&self, lent: &mut Lent, threshold: u64) -> u16 {
+        narrow("number", make(lent, threshold))
+    }
+
+    fn check(&self, lent: &Lent) -> (u16, u8) {
+        let (number, letter) = check(lent);
+        (narrow("number", number), narrow("letter", letter))
+    }
+
+    fn run(&self, lent: &mut Lent, list: &[u8], answers: &mut [u8]) -> Ran {
+        let outcome = run(lent, list, answers);
+        Ran {
+            number: narrow("number", outcome.number),
+            letter: narrow("letter", outcome.letter),
+            served: narrow("requests served", outcome.served),
+            written: narrow("bytes written", outcome.written),
+        }
+    }
+}
+
+/// A check without guards and copies, for timing.
+pub fn check_in_place(lent: &mut Lent) -> (u64, u64) {
+    let Lent { area, cards, lists, head, memory } = lent;
+    let pieces = zilgwern_sys::Pieces {
+        area: &mut area[..],
+        cards: &mut cards[..],
+        lists: &mut lists[..],
+        head,
+        memory,
     };
+    let mut letter = 0;
+    // SAFETY: as above.
+    let number = unsafe { pieces.check(&mut letter) };
     (number, letter)
 }

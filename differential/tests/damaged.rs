@@ -20,7 +20,7 @@ const DAMAGED_EACH: usize = 500;
 fn sound_store(random: &mut Random, number: usize) -> Lent {
     let places = [16, 17, 24, 40, 64][number % 5];
     let keys = KEYS[number % 3];
-    if number % 2 == 0 {
+    if number.is_multiple_of(2) {
         return planted(random, places, keys).encode();
     }
     let mut lent = Lent::zeroed(places);
@@ -49,11 +49,12 @@ fn agree(lent: &Lent, seen: &mut BTreeMap<String, usize>) {
     }
 }
 
-#[test]
-fn damaged_stores_are_judged_alike() {
-    let mut random = Random::new(5);
+/// Each half is one thread's work, so that cores share it.
+fn judged_alike(seed: u64, numbers: std::ops::Range<usize>) {
+    let mut random = Random::new(seed);
     let mut seen = BTreeMap::new();
-    for number in 0..STORES {
+    let stores = numbers.len();
+    for number in numbers {
         let sound = sound_store(&mut random, number);
         agree(&sound, &mut seen);
         for _ in 0..DAMAGED_EACH {
@@ -67,7 +68,17 @@ fn damaged_stores_are_judged_alike() {
         let letter = format!("letter {}", char::from(rule.letter()));
         assert!(seen.contains_key(&letter), "{letter} never came");
     }
-    assert!(seen["number 0"] > STORES, "no damage was harmless");
+    assert!(seen["number 0"] > stores, "no damage was harmless");
+}
+
+#[test]
+fn damaged_stores_are_judged_alike() {
+    judged_alike(5, 0..STORES / 2);
+}
+
+#[test]
+fn further_damaged_stores_are_judged_alike() {
+    judged_alike(8, STORES / 2..STORES);
 }
 
 #[test]

@@ -1,23 +1,9 @@
 //! Making a store over lent memory of any contents, against the second implementation.
 
+use differential::histories::any_lent;
 use differential::make;
 use reference::generate::random::Random;
-use reference::lent::Lent;
 use reference::run;
-
-/// Lent memory of any contents.
-fn any_lent(random: &mut Random, places: usize) -> Lent {
-    let mut lent = Lent::zeroed(places);
-    lent.area = random.bytes(places * 1024);
-    for word in lent.cards.iter_mut().flatten().chain(lent.head.iter_mut()) {
-        *word = random.word();
-    }
-    for item in &mut lent.lists {
-        *item = random.word() as u16;
-    }
-    lent.memory.copy_from_slice(&random.bytes(1024));
-    lent
-}
 
 #[test]
 fn made_alike_for_every_threshold_and_size() {

@@ -127,7 +127,7 @@ pub fn jobs(seed: u64) -> Vec<Job> {
 }
 
 /// Key sets that fit a store of so many places: small ones repeat keys, large ones fill levels.
-fn key_sets(places: usize) -> [Keys; 5] {
+pub fn key_sets(places: usize) -> [Keys; 5] {
     let places = places as u64;
     [
         Keys::Dense(24),

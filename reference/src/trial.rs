@@ -38,7 +38,7 @@ pub struct Finding {
 }
 
 /// The byte that fills the answer buffer before a run; bytes beyond the answers must keep it.
-const UNTOUCHED: u8 = 0xA5;
+pub const UNTOUCHED: u8 = 0xA5;
 
 /// A history under way.
 pub struct Trial<'a> {

@@ -22,11 +22,11 @@ fn main() {
     let mut before: Option<(usize, f64)> = None;
     println!("places  tables  links  proved (us)  per place (ns)  second (us)  growth");
     for places in [64, 512, 4096] {
-        let lent = full(&mut random, places).encode();
+        let mut lent = full(&mut random, places).encode();
         let tables: u64 = lent.head[HEAD_LENGTHS..].iter().sum();
         let links: u64 = lent.cards.iter().map(|row| row[ROW_COUNT]).sum();
         assert_eq!(differential::check(&lent), (0, 0));
-        let proved = least_time(|| assert_eq!(differential::check_in_place(&lent), (0, 0)));
+        let proved = least_time(|| assert_eq!(differential::check_in_place(&mut lent), (0, 0)));
         let second = least_time(|| assert_eq!(rules::check(&lent).number, 0));
         let growth = match before {
             Some((fewer, time)) => format!("x{:.1} for x{} places", proved / time, places / fewer),

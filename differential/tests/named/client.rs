@@ -1,0 +1,264 @@
+//! A small client of the proved store for tests by name: requests to bytes, replies from bytes, and stores put together by
+//! hand. Nothing here comes from the second implementation but the container of the lent memory.
+
+use differential::{check, make, run, Outcome};
+use reference::lent::Lent;
+
+pub const GREATEST: u64 = u64::MAX;
+
+/// The byte that fills answer buffers, so that untouched bytes show.
+const UNTOUCHED: u8 = 0xEE;
+
+/// A request of any kind.
+#[derive(Clone, Debug)]
+pub enum Ask {
+    Put(u64, &'static str),
+    Delete(u64),
+    LookUp(u64),
+    Scan(u64, u64),
+    Flush,
+    Tidy,
+    Report,
+    /// A kind, and a body of so many bytes 7.
+    Odd(u16, usize),
+}
+
+/// A reply, decoded.
+#[derive(Clone, PartialEq, Eq, Debug)]
+pub enum Reply {
+    /// Result 0 without a body.
+    Done,
+    Value(String),
+    Values {
+        values: Vec<(u64, String)>,
+        more: u16,
+    },
+    /// Step and level of a tidy.
+    Step(u16, u16),
+    Counts([u16; 8]),
+    /// A result that is not 0.
+    Not(u16),
+}
+
+impl Ask {
+    fn kind(&self) -> u16 {
+        match self {
+            Ask::Put(..) => 1,
+            Ask::Delete(_) => 2,
+            Ask::LookUp(_) => 3,
+            Ask::Scan(..) => 4,
+            Ask::Flush => 5,
+            Ask::Tidy => 6,
+            Ask::Report => 7,
+            Ask::Odd(kind, _) => *kind,
+        }
+    }
+
+    pub fn bytes(&self) -> Vec<u8> {
+        let body = match self {
+            Ask::Put(key, value) => [&key.to_le_bytes()[..], value.as_bytes()].concat(),
+            Ask::Delete(key) | Ask::LookUp(key) => key.to_le_bytes().to_vec(),
+            Ask::Scan(low, high) => [low.to_le_bytes(), high.to_le_bytes()].concat(),
+            Ask::Flush | Ask::Tidy | Ask::Report => Vec::new(),
+            Ask::Odd(_, length) => vec![7; *length],
+        };
+        let length = 4 + body.len() as u16;
+        [&length.to_le_bytes()[..], &self.kind().to_le_bytes(), &body].concat()
+    }
+}
+
+/// The bytes of a list.
+pub fn list(asks: &[Ask]) -> Vec<u8> {
+    asks.iter().flat_map(Ask::bytes).collect()
+}
+
+fn pair(bytes: &[u8], at: usize) -> u16 {
+    u16::from_le_bytes([bytes[at], bytes[at + 1]])
+}
+
+fn text(bytes: &[u8]) -> String {
+    String::from_utf8(bytes.to_vec()).expect("these tests put text")
+}
+
+/// Takes a reply to a request of this kind from the front of the answers.
+fn reply(kind: u16, answers: &mut &[u8]) -> Reply {
+    let (whole, rest) = answers.split_at(usize::from(pair(answers, 0)));
+    *answers = rest;
+    assert_eq!(pair(whole, 2), kind, "a reply bears the kind of its request");
+    let (result, body) = (pair(whole, 4), &whole[6..]);
+    match (result, kind) {
+        (0, 3) => Reply::Value(text(body)),
+        (0, 4) => values(body),
+        (0, 6) => {
+            assert_eq!(body.len(), 4);
+            Reply::Step(pair(body, 0), pair(body, 2))
+        }
+        (0, 7) => {
+            assert_eq!(body.len(), 16);
+            Reply::Counts(std::array::from_fn(|count| pair(body, 2 * count)))
+        }
+        _ => {
+            assert_eq!(body.len(), 0, "no body with result {result} of kind {kind}");
+            if result == 0 {
+                Reply::Done
+            } else {
+                Reply::Not(result)
+            }
+        }
+    }
+}
+
+fn values(body: &[u8]) -> Reply {
+    let mut rest = &body[4..];
+    let mut values = Vec::new();
+    while !rest.is_empty() {
+        let (entry, others) = rest.split_at(usize::from(pair(rest, 0)));
+        assert_eq!(pair(entry, 2), 1, "a scan gives values");
+        let key = u64::from_le_bytes(entry[4..12].try_into().expect("eight bytes"));
+        values.push((key, text(&entry[12..])));
+        rest = others;
+    }
+    assert_eq!(usize::from(pair(body, 0)), values.len());
+    Reply::Values { values, more: pair(body, 2) }
+}
+
+/// A store under test.
+#[derive(Clone)]
+pub struct Client {
+    pub lent: Lent,
+}
+
+impl Client {
+    pub fn new(places: usize, threshold: u64) -> Client {
+        let mut lent = Lent::zeroed(places);
+        assert_eq!(make(&mut lent, threshold), 0);
+        Client { lent }
+    }
+
+    /// A store with tables of these keys on these levels, in places from 0 up; a value is the key in decimal digits.
+    pub fn with_tables(places: usize, threshold: u64, tables: &[(usize, &[u64])]) -> Client {
+        let mut client = Client::new(places, threshold);
+        let lent = &mut client.lent;
+        for (place, (level, keys)) in tables.iter().enumerate() {
+            lent.area[place * 1024..(place + 1) * 1024].copy_from_slice(&table(keys));
+            lent.cards[place][0] = 1;
+            lent.lists[level * places + lent.head[6 + level] as usize] = place as u16;
+            lent.head[6 + level] += 1;
+        }
+        lent.head[1] = tables.len() as u64;
+        assert_eq!(check(lent), (0, 0), "put together wrongly");
+        client
+    }
+
+    /// Adds a frozen table in a free place, with links on live places: place, low, high.
+    pub fn freeze(
+        mut self,
+        place: usize,
+        entries: &[Entry],
+        links: &[(usize, u64, u64)],
+    ) -> Client {
+        let lent = &mut self.lent;
+        lent.area[place * 1024..(place + 1) * 1024].copy_from_slice(&table_of(entries));
+        lent.cards[place][0] = 2;
+        for (on, low, high) in links {
+            let card = &mut lent.cards[*on];
+            let word = 2 + 3 * card[1] as usize;
+            card[word..word + 3].copy_from_slice(&[place as u64, *low, *high]);
+            card[1] += 1;
+        }
+        assert_eq!(check(lent), (0, 0), "put together wrongly");
+        self
+    }
+
+    /// One run with so much room for answers; gives what came back and the answer bytes.
+    /// Bytes beyond those written must be untouched.
+    pub fn run(&mut self, list: &[u8], room: usize) -> (Outcome, Vec<u8>) {
+        let mut answers = vec![UNTOUCHED; room];
+        let outcome = run(&mut self.lent, list, &mut answers);
+        let beyond = answers.split_off(outcome.written as usize);
+        assert!(beyond.iter().all(|byte| *byte == UNTOUCHED), "written beyond the answers");
+        (outcome, answers)
+    }
+
+    /// One run that is accepted and serves all.
+    pub fn ask(&mut self, asks: &[Ask]) -> Vec<Reply> {
+        let (outcome, answers) = self.run(&list(asks), 1024 * (1 + asks.len()));
+        assert_eq!((outcome.number, outcome.letter), (0, 0));
+        assert_eq!(outcome.served as usize, asks.len());
+        let mut rest = &answers[..];
+        let replies = asks.iter().map(|ask| reply(ask.kind(), &mut rest)).collect();
+        assert!(rest.is_empty(), "bytes beyond the last reply");
+        replies
+    }
+
+    /// The same for one request.
+    pub fn ask_one(&mut self, ask: Ask) -> Reply {
+        self.ask(&[ask]).remove(0)
+    }
+
+    /// A request that must change nothing.
+    pub fn ask_in_vain(&mut self, ask: Ask) -> Reply {
+        let before = self.lent.clone();
+        let reply = self.ask_one(ask);
+        assert_eq!(
+            self.lent.difference(&before),
+            None,
+            "a request without effect changed the store"
+        );
+        reply
+    }
+
+    /// Puts these keys, each with the same value, and flushes them as one table.
+    pub fn flush_table(&mut self, keys: impl IntoIterator<Item = u64>, value: &'static str) {
+        let mut asks: Vec<Ask> = keys.into_iter().map(|key| Ask::Put(key, value)).collect();
+        asks.push(Ask::Flush);
+        assert!(self.ask(&asks).iter().all(|reply| *reply == Reply::Done));
+    }
+
+    /// Places of a level's list.
+    pub fn level(&self, level: usize) -> &[u16] {
+        let places = self.lent.cards.len();
+        &self.lent.lists[level * places..][..self.lent.head[6 + level] as usize]
+    }
+}
+
+/// A key with its value, or with none for a delete mark.
+pub type Entry = (u64, Option<String>);
+
+/// Entries whose values are their keys in decimal digits.
+pub fn digits(keys: &[u64]) -> Vec<Entry> {
+    keys.iter().map(|key| (*key, Some(key.to_string()))).collect()
+}
+
+/// Delete marks of these keys.
+pub fn marks(keys: impl IntoIterator<Item = u64>) -> Vec<Entry> {
+    keys.into_iter().map(|key| (key, None)).collect()
+}
+
+/// A table of such entries.
+pub fn table(keys: &[u64]) -> [u8; 1024] {
+    table_of(&digits(keys))
+}
+
+pub fn table_of(entries: &[Entry]) -> [u8; 1024] {
+    let mut used = Vec::new();
+    for (key, value) in entries {
+        let text = value.as_deref().unwrap_or("");
+        used.extend((12 + text.len() as u16).to_le_bytes());
+        used.extend([if value.is_some() { 1 } else { 2 }, 0]);
+        used.extend(key.to_le_bytes());
+        used.extend(text.as_bytes());
+    }
+    let mut bytes = [0; 1024];
+    bytes[..2].copy_from_slice(&(8 + used.len() as u16).to_le_bytes());
+    bytes[2] = 32;
+    bytes[4] = entries.len() as u8;
+    bytes[8..8 + used.len()].copy_from_slice(&used);
+    bytes
+}
+
+/// A scan's reply with these keys, all with one value.
+pub fn found(keys: impl IntoIterator<Item = u64>, value: &str, more: u16) -> Reply {
+    let values = keys.into_iter().map(|key| (key, value.to_string())).collect();
+    Reply::Values { values, more }
+}

@@ -1,0 +1,8 @@
+//! Tests by name: short histories with expected answers written out by hand.
+
+mod choices;
+mod client;
+mod examples;
+mod reading;
+mod refusals;
+mod steps;

@@ -1,0 +1,211 @@
+//! What can be refused, in words and by the order's numbers.
+
+use std::fmt;
+
+/// A rule of a sound store.
+#[derive(Clone, Copy, PartialEq, Eq, Debug)]
+pub enum Rule {
+    A,
+    B,
+    C,
+    D,
+    E,
+    F,
+    G,
+}
+
+impl Rule {
+    const ALL: [Rule; 7] = [Rule::A, Rule::B, Rule::C, Rule::D, Rule::E, Rule::F, Rule::G];
+
+    pub(crate) fn of_letter(letter: u64) -> Rule {
+        let found = Rule::ALL.into_iter().find(|rule| rule.letter() as u64 == letter);
+        found.expect("the library gives the letter of a broken rule")
+    }
+
+    pub fn letter(self) -> char {
+        char::from(b'A' + self as u8)
+    }
+
+    fn words(self) -> &'static str {
+        match self {
+            Rule::A => "threshold not 1 to 8, or cursor not below the number of places",
+            Rule::B => "a place whose card and lists do not fit each other",
+            Rule::C => "a live or frozen place without a good table",
+            Rule::D => "the memory table is none",
+            Rule::E => "a link that is wrong or shares keys with another",
+            Rule::F => "a place that is frozen without a link, or linked without being frozen",
+            Rule::G => "tables out of order, or parts of the book not in use that are not zero",
+        }
+    }
+}
+
+/// Why a whole call was refused. Nothing was changed.
+#[derive(Clone, Copy, PartialEq, Eq, Debug)]
+pub enum Refused {
+    /// 1: the area is not 16 to 4,096 whole places, or cards or lists are not as many.
+    Sizes,
+    /// 2: the threshold is outside 1 to 8.
+    Threshold,
+    /// 3: the answer buffer has under 1,024 bytes.
+    ShortAnswer,
+    /// 4: the list is over 65,536 bytes or its lengths do not end at its end.
+    BrokenList,
+    /// 5: the store is not sound; this rule is broken, and perhaps others.
+    NotSound(Rule),
+}
+
+impl Refused {
+    pub(crate) fn of(number: u64, letter: u64) -> Result<(), Refused> {
+        Err(match number {
+            0 => return Ok(()),
+            1 => Refused::Sizes,
+            2 => Refused::Threshold,
+            3 => Refused::ShortAnswer,
+            4 => Refused::BrokenList,
+            _ => Refused::NotSound(Rule::of_letter(letter)),
+        })
+    }
+
+    /// The order's number.
+    pub fn number(self) -> u16 {
+        match self {
+            Refused::Sizes => 1,
+            Refused::Threshold => 2,
+            Refused::ShortAnswer => 3,
+            Refused::BrokenList => 4,
+            Refused::NotSound(_) => 5,
+        }
+    }
+}
+
+impl fmt::Display for Refused {
+    fn fmt(&self, out: &mut fmt::Formatter) -> fmt::Result {
+        write!(out, "{}: ", self.number())?;
+        match self {
+            Refused::Sizes => {
+                write!(out, "area not 16 to 4,096 whole places, or cards or lists not as many")
+            }
+            Refused::Threshold => write!(out, "threshold outside 1 to 8"),
+            Refused::ShortAnswer => write!(out, "answer buffer under 1,024 bytes"),
+            Refused::BrokenList => write!(out, "request list too long or broken"),
+            Refused::NotSound(rule) => {
+                write!(out, "store not sound, rule {}: {}", rule.letter(), rule.words())
+            }
+        }
+    }
+}
+
+/// Why a request was refused. The store is as it was, and the run went on.
+#[derive(Clone, Copy, PartialEq, Eq, Debug)]
+pub enum Refusal {
+    /// 16.
+    UnknownKind,
+    /// 17.
+    WrongBody,
+    /// 18: a new key, and the memory table holds 16: flush first.
+    MemoryFull,
+    /// 19: a scan with low above high.
+    WrongRange,
+    /// 20: fewer free places than the flush or due merge writes.
+    NoPlace,
+}
+
+impl Refusal {
+    pub(crate) fn of(result: u16) -> Option<Refusal> {
+        use Refusal::*;
+        let all = [UnknownKind, WrongBody, MemoryFull, WrongRange, NoPlace];
+        all.into_iter().find(|refusal| refusal.number() == result)
+    }
+
+    /// The order's number.
+    pub fn number(self) -> u16 {
+        16 + self as u16
+    }
+}
+
+impl fmt::Display for Refusal {
+    fn fmt(&self, out: &mut fmt::Formatter) -> fmt::Result {
+        let words = match self {
+            Refusal::UnknownKind => "unknown kind",
+            Refusal::WrongBody => "body length wrong for the kind",
+            Refusal::MemoryFull => "new key, and the memory table holds 16 entries",
+            Refusal::WrongRange => "scan with low above high",
+            Refusal::NoPlace => "fewer free places than the flush or merge writes",
+        };
+        write!(out, "{}: {words}", self.number())
+    }
+}
+
+/// Why a request was not added to a list.
+#[derive(Clone, Copy, PartialEq, Eq, Debug)]
+pub enum ListError {
+    /// The list would have more than 65,536 bytes.
+    Full,
+    /// The value has more than 48 bytes.
+    ValueTooLong,
+}
+
+impl fmt::Display for ListError {
+    fn fmt(&self, out: &mut fmt::Formatter) -> fmt::Result {
+        out.write_str(match self {
+            ListError::Full => "the list would have more than 65,536 bytes",
+            ListError::ValueTooLong => "the value has more than 48 bytes",
+        })
+    }
+}
+
+/// Any of the three.
+#[derive(Clone, Copy, PartialEq, Eq, Debug)]
+pub enum Error {
+    /// A whole call was refused.
+    Refused(Refused),
+    /// A request was refused.
+    Request(Refusal),
+    /// A request was not even put into a list.
+    List(ListError),
+}
+
+impl Error {
+    /// The order's number; a value that is too long has that of a wrong body, a list that is too long that of a broken one.
+    pub fn number(self) -> u16 {
+        match self {
+            Error::Refused(refused) => refused.number(),
+            Error::Request(refusal) => refusal.number(),
+            Error::List(ListError::ValueTooLong) => Refusal::WrongBody.number(),
+            Error::List(ListError::Full) => Refused::BrokenList.number(),
+        }
+    }
+}
+
+impl fmt::Display for Error {
+    fn fmt(&self, out: &mut fmt::Formatter) -> fmt::Result {
+        match self {
+            Error::Refused(refused) => refused.fmt(out),
+            Error::Request(refusal) => refusal.fmt(out),
+            Error::List(error) => write!(out, "{}: {error}", self.number()),
+        }
+    }
+}
+
+impl From<Refused> for Error {
+    fn from(refused: Refused) -> Error {
+        Error::Refused(refused)
+    }
+}
+
+impl From<Refusal> for Error {
+    fn from(refusal: Refusal) -> Error {
+        Error::Request(refusal)
+    }
+}
+
+impl From<ListError> for Error {
+    fn from(error: ListError) -> Error {
+        Error::List(error)
+    }
+}
+
+impl std::error::Error for Refused {}
+impl std::error::Error for Refusal {}
+impl std::error::Error for ListError {}
+impl std::error::Error for Error {}

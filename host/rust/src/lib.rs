@@ -1,0 +1,62 @@
+//! The van's survey store for Rust hosts: a safe wrapper over the proved store's static library.
+//!
+//! A store lives in memory that its host lends, and nowhere else. It is made or opened over memory that it owns or borrows:
+//!
+//! ```
+//! use zilgwern::{Key, Store};
+//!
+//! let mut store = Store::owned(32, 4)?;
+//! let joint = Key::of(3, 1_250).unwrap(); // line 3 at 1,250 mm
+//! store.put(joint, b"BAF")?;
+//! assert_eq!(store.look_up(joint)?.as_deref(), Some(&b"BAF"[..]));
+//! # Ok::<(), zilgwern::Error>(())
+//! ```
+//!
+//! Each call checks the whole store once, so a host with many requests puts them into one [`List`]:
+//!
+//! ```
+//! use zilgwern::{List, Reply, Store};
+//!
+//! let mut store = Store::owned(32, 4)?;
+//! let mut list = List::new();
+//! list.put(5, b"A")?.look_up(5)?.delete(5)?.look_up(5)?.flush()?;
+//! let replies = store.run(&list)?;
+//! assert_eq!(replies[1], Reply::Value(b"A".to_vec()));
+//! assert_eq!(replies[3], Reply::NoValue);
+//! # Ok::<(), zilgwern::Error>(())
+//! ```
+//!
+//! Refusals are named in words and by the order's number:
+//!
+//! ```
+//! use zilgwern::{Error, Store};
+//!
+//! let error = Store::owned(15, 4).err().unwrap();
+//! assert_eq!(error.number(), 1);
+//! assert!(error.to_string().starts_with("1: "));
+//! ```
+
+mod error;
+mod key;
+mod list;
+mod memory;
+mod range;
+mod reply;
+mod store;
+
+pub use error::{Error, ListError, Refusal, Refused, Rule};
+pub use key::Key;
+pub use list::List;
+pub use memory::{Memory, Pieces, Row};
+pub use range::Range;
+pub use reply::{Page, Reply, Report, Step, Stepped};
+pub use store::Store;
+
+/// The longest value.
+pub const VALUE_BYTES: usize = 48;
+
+/// The longest request list.
+pub const LIST_BYTES: usize = 65_536;
+
+/// Room that must be left in the answer buffer before a request is served.
+pub const ANSWER_ROOM: usize = 1024;

@@ -1,0 +1,182 @@
+//! A store over lent memory, and the calls of the library.
+
+use crate::memory::Held;
+use crate::{Error, Key, List, Memory, Page, Pieces, Range, Refused, Reply, Report, Stepped};
+use crate::{ListError, ANSWER_ROOM};
+
+/// The most room for answers that is taken at once; longer answers come in several runs.
+const MOST_ROOM: usize = 1 << 18;
+
+/// A store in memory that it owns or borrows.
+pub struct Store<'a> {
+    held: Held<'a>,
+}
+
+impl Store<'static> {
+    /// Makes a new store in memory of its own.
+    pub fn owned(places: usize, threshold: u64) -> Result<Store<'static>, Error> {
+        Store::begin(Held::Owned(Box::new(Memory::zeroed(places))), threshold)
+    }
+
+    /// Opens the store in this memory.
+    pub fn open_owned(memory: Memory) -> Result<Store<'static>, Error> {
+        Store::continued(Held::Owned(Box::new(memory)))
+    }
+}
+
+impl<'a> Store<'a> {
+    /// Makes a new store in borrowed memory of any content.
+    pub fn make(pieces: Pieces<'a>, threshold: u64) -> Result<Store<'a>, Error> {
+        Store::begin(Held::Borrowed(pieces), threshold)
+    }
+
+    /// Opens the store in borrowed memory, if there is a sound one.
+    ///
+    /// ```
+    /// use zilgwern::{Error, Memory, Refused, Rule, Store};
+    ///
+    /// let mut memory = Memory::zeroed(16);
+    /// let error = Store::open(memory.lend()).err().unwrap();
+    /// assert_eq!(error.number(), 5);
+    /// assert!(matches!(error, Error::Refused(Refused::NotSound(_))));
+    /// ```
+    pub fn open(pieces: Pieces<'a>) -> Result<Store<'a>, Error> {
+        Store::continued(Held::Borrowed(pieces))
+    }
+
+    fn begin(mut held: Held<'a>, threshold: u64) -> Result<Store<'a>, Error> {
+        // SAFETY: the pointers are those of distinct mutable borrows, each with its own count.
+        let number = unsafe { held.raw().make(threshold) };
+        Refused::of(number, 0)?;
+        Ok(Store { held })
+    }
+
+    fn continued(held: Held<'a>) -> Result<Store<'a>, Error> {
+        let mut store = Store { held };
+        store.check()?;
+        Ok(store)
+    }
+
+    /// Checks the store. What this crate does keeps it sound; memory that came from elsewhere may not be.
+    pub fn check(&mut self) -> Result<(), Refused> {
+        let mut letter = 0;
+        // SAFETY: as above; only the letter is written.
+        let number = unsafe { self.held.raw().check(&mut letter) };
+        Refused::of(number, letter)
+    }
+
+    /// Runs bytes as a list, with answers in a buffer: the requests served and the bytes written. The run stops before a
+    /// request when fewer than 1,024 bytes of the buffer are left.
+    pub fn run_bytes(
+        &mut self,
+        list: &[u8],
+        answers: &mut [u8],
+    ) -> Result<(usize, usize), Refused> {
+        let mut outcome = [0; 3];
+        // SAFETY: as above; the list is only read.
+        let number = unsafe { self.held.raw().run(list, answers, &mut outcome) };
+        let [letter, served, written] = outcome;
+        Refused::of(number, letter)?;
+        Ok((served as usize, written as usize))
+    }
+
+    /// Runs a list to its end. Requests that are refused are so in their replies; the others are served.
+    pub fn run(&mut self, list: &List) -> Result<Vec<Reply>, Refused> {
+        let mut answers = vec![0; ANSWER_ROOM + list.most_reply_bytes().min(MOST_ROOM)];
+        let mut replies = Vec::with_capacity(list.len());
+        let mut rest = list.as_bytes();
+        loop {
+            let (served, written) = self.run_bytes(rest, &mut answers)?;
+            let mut written = &answers[..written];
+            for _ in 0..served {
+                replies.push(Reply::take(&mut written));
+                rest = &rest[usize::from(u16::from_le_bytes([rest[0], rest[1]]))..];
+            }
+            if rest.is_empty() {
+                return Ok(replies);
+            }
+            assert!(served > 0, "a run with room for a reply serves a request");
+        }
+    }
+
+    /// One request: its reply, or why it was refused.
+    fn one(
+        &mut self,
+        add: impl FnOnce(&mut List) -> Result<&mut List, ListError>,
+    ) -> Result<Reply, Error> {
+        let mut list = List::new();
+        add(&mut list)?;
+        match self.run(&list)?.pop() {
+            Some(Reply::Refused(refusal)) => Err(refusal.into()),
+            Some(reply) => Ok(reply),
+            None => unreachable!("a list of one request has one reply"),
+        }
+    }
+
+    /// Puts a value of at most 48 bytes under a key.
+    pub fn put(&mut self, key: impl Into<Key>, value: &[u8]) -> Result<(), Error> {
+        self.one(|list| list.put(key, value)).map(|_| ())
+    }
+
+    /// Takes the value under a key away, if there is one.
+    pub fn delete(&mut self, key: impl Into<Key>) -> Result<(), Error> {
+        self.one(|list| list.delete(key)).map(|_| ())
+    }
+
+    /// The value under a key.
+    pub fn look_up(&mut self, key: impl Into<Key>) -> Result<Option<Vec<u8>>, Error> {
+        Ok(match self.one(|list| list.look_up(key))? {
+            Reply::Value(value) => Some(value),
+            _ => None,
+        })
+    }
+
+    /// The first 16 or fewer values from low to high, both included.
+    pub fn scan(&mut self, low: impl Into<Key>, high: impl Into<Key>) -> Result<Page, Error> {
+        Ok(match self.one(|list| list.scan(low, high))? {
+            Reply::Page(page) => page,
+            _ => Page::default(),
+        })
+    }
+
+    /// All values from low to high, both included, keys rising. Sixteen at a time are asked for.
+    ///
+    /// ```
+    /// use zilgwern::Store;
+    ///
+    /// let mut store = Store::owned(32, 4)?;
+    /// for key in 0..40u64 {
+    ///     store.put(key, &[key as u8])?;
+    ///     if key % 16 == 15 {
+    ///         store.flush()?;
+    ///     }
+    /// }
+    /// let keys: Result<Vec<u64>, _> = store.range(10, 35).map(|found| Ok(found?.0 .0)).collect();
+    /// assert_eq!(keys, Ok::<_, zilgwern::Error>((10..=35).collect()));
+    /// # Ok::<(), zilgwern::Error>(())
+    /// ```
+    pub fn range(&mut self, low: impl Into<Key>, high: impl Into<Key>) -> Range<'_, 'a> {
+        Range::new(self, low.into(), high.into())
+    }
+
+    /// Writes the memory table to a place and empties it; false if it is empty already.
+    pub fn flush(&mut self) -> Result<bool, Error> {
+        self.one(List::flush).map(|reply| reply == Reply::Done)
+    }
+
+    /// Does one step of compaction; none if there is nothing to do.
+    pub fn tidy(&mut self) -> Result<Option<Stepped>, Error> {
+        Ok(match self.one(List::tidy)? {
+            Reply::Stepped(stepped) => Some(stepped),
+            _ => None,
+        })
+    }
+
+    /// What is where.
+    pub fn report(&mut self) -> Result<Report, Error> {
+        Ok(match self.one(List::report)? {
+            Reply::Report(report) => report,
+            _ => Report::default(),
+        })
+    }
+}

@@ -1,0 +1,186 @@
+/*
+ * zilgwern.h: the van's survey store, an ordered key-value store over memory that the caller lends.
+ *
+ * For recorders written in C or C++ that link target/staticlib/libstore.a (written by `rt staticlib store`).
+ *
+ * The library keeps nothing of its own between calls, allocates nothing and opens nothing. A store is the five pieces of
+ * memory below and nothing else: to keep a store, keep these bytes; to copy it, copy them. Any contents are taken: what is
+ * no sound store is refused by number, and a refused call changes nothing.
+ *
+ * Who calls must see to three things, which the library can't check:
+ *   - every pointer is good for as many elements as its count says, and aligned as its type is;
+ *   - the buffers of one call do not overlap;
+ *   - no two calls on the same memory run at the same time.
+ * Pointers may not be null, also where the count is 0.
+ *
+ * Numbers in memory are those of the machine (x86-64: little-endian). Numbers in tables, requests and replies are always
+ * little-endian, whatever the machine.
+ */
+#ifndef ZILGWERN_H
+#define ZILGWERN_H
+
+#include <stddef.h>
+#include <stdint.h>
+
+#ifdef __cplusplus
+#define ZILGWERN_STATIC_ASSERT(condition, words) static_assert(condition, words)
+extern "C" {
+#else
+#define ZILGWERN_STATIC_ASSERT(condition, words) _Static_assert(condition, words)
+#endif
+
+/* ---- Sizes ------------------------------------------------------------------------------------------------------------ */
+
+#define ZILGWERN_PLACE_BYTES 1024  /* bytes of one place; a place holds one table */
+#define ZILGWERN_LEAST_PLACES 16   /* a store has P places, P from 16 */
+#define ZILGWERN_MOST_PLACES 4096  /* to 4,096 */
+#define ZILGWERN_LEVELS 4          /* levels 0 to 3 */
+#define ZILGWERN_CARD_LINKS 8      /* links that a card has room for; the threshold is at most this */
+#define ZILGWERN_MEMORY_BYTES 1024 /* bytes of the memory table */
+#define ZILGWERN_VALUE_BYTES 48    /* the longest value */
+#define ZILGWERN_TABLE_ENTRIES 16  /* the most entries of a table, and of the memory table */
+#define ZILGWERN_SCAN_VALUES 16    /* the most values that one scan gives */
+#define ZILGWERN_LIST_BYTES 65536  /* the longest request list */
+#define ZILGWERN_ANSWER_ROOM 1024  /* bytes that must be left in the answer buffer before a request is served */
+
+/* Bytes of the area of a store, and items of its four level lists together. */
+#define ZILGWERN_AREA_BYTES(places) ((size_t)(places) * ZILGWERN_PLACE_BYTES)
+#define ZILGWERN_LIST_ITEMS(places) ((size_t)(places) * ZILGWERN_LEVELS)
+
+/* ---- Lent memory ------------------------------------------------------------------------------------------------------ */
+
+/* A link: the keys from low to high, both included, of a frozen place's table belong to the live table that has the link. */
+typedef struct zilgwern_link {
+    uint64_t place;
+    uint64_t low;
+    uint64_t high;
+} zilgwern_link;
+
+/* What a card says of its place. */
+enum { ZILGWERN_FREE = 0, ZILGWERN_LIVE = 1, ZILGWERN_FROZEN = 2 };
+
+/* The card of a place. Links stand oldest first; words beyond link_count links are zero. */
+typedef struct zilgwern_card {
+    uint64_t state;
+    uint64_t link_count;
+    zilgwern_link links[ZILGWERN_CARD_LINKS];
+} zilgwern_card;
+
+ZILGWERN_STATIC_ASSERT(sizeof(zilgwern_card) == 208, "a card is 26 words of 64 bits");
+
+/* A mark: the key after which tidy goes on choosing in a level. flag is 1 if there is a key; else both are 0. */
+typedef struct zilgwern_mark {
+    uint64_t flag;
+    uint64_t key;
+} zilgwern_mark;
+
+/* The head of the book. */
+typedef struct zilgwern_head {
+    uint64_t threshold;                    /* 1 to 8: so many links make a merge due */
+    uint64_t cursor;                       /* the place from which the next free one is looked for */
+    zilgwern_mark marks[2];                /* of level 1 and of level 2 */
+    uint64_t lengths[ZILGWERN_LEVELS];     /* live tables on levels 0 to 3 */
+} zilgwern_head;
+
+ZILGWERN_STATIC_ASSERT(sizeof(zilgwern_head) == 80, "the head is 10 words of 64 bits");
+
+/*
+ * The five pieces, for P places:
+ *
+ *   area     ZILGWERN_AREA_BYTES(P) bytes   the places; place n starts at byte 1024 n
+ *   cards    P cards                        card n is that of place n
+ *   lists    ZILGWERN_LIST_ITEMS(P) items   four lists of P places; that of level n starts at item n * P. Level 0 is ordered
+ *                                           oldest first, levels 1 to 3 by key. Items beyond a list's length are zero
+ *   head     one
+ *   memory   1,024 bytes                    the memory table: what was put and deleted since the last flush
+ */
+
+/* ---- Numbers ---------------------------------------------------------------------------------------------------------- */
+
+/* What a call returns. Where several apply, the lowest comes. */
+enum {
+    ZILGWERN_ACCEPTED = 0,
+    ZILGWERN_WRONG_SIZES = 1,      /* area not 16 to 4,096 whole places, or not P cards, or not 4 P list items */
+    ZILGWERN_WRONG_THRESHOLD = 2,  /* make: threshold outside 1 to 8 */
+    ZILGWERN_SHORT_ANSWER = 3,     /* run: answer buffer under 1,024 bytes */
+    ZILGWERN_BROKEN_LIST = 4,      /* run: list over 65,536 bytes, a length below 4, or lengths not ending at the list's end */
+    ZILGWERN_NOT_SOUND = 5         /* check, run: a rule is broken; its letter says which */
+};
+
+/* The letter that comes with 5: one of the broken rules, in ASCII. With every other number it is 0. */
+enum {
+    ZILGWERN_RULE_A = 'A', /* threshold 1 to 8, cursor below P */
+    ZILGWERN_RULE_B = 'B', /* each place is free or frozen and in no list, or live and in one list once; only live cards link */
+    ZILGWERN_RULE_C = 'C', /* live and frozen places hold tables */
+    ZILGWERN_RULE_D = 'D', /* the memory table is one, with 0 to 16 entries */
+    ZILGWERN_RULE_E = 'E', /* links: on levels 1 to 3, at most the threshold, ranges good, on frozen places, sharing no key */
+    ZILGWERN_RULE_F = 'F', /* a place is frozen exactly if a link names it */
+    ZILGWERN_RULE_G = 'G'  /* tables of levels 1 to 3 lie apart and rise; parts of the book not in use are zero */
+};
+
+/* Kinds of requests. */
+enum {
+    ZILGWERN_PUT = 1,     /* key (8), value (0 to 48) */
+    ZILGWERN_DELETE = 2,  /* key (8) */
+    ZILGWERN_LOOK_UP = 3, /* key (8); the reply's body is the value */
+    ZILGWERN_SCAN = 4,    /* low key (8), high key (8), both included; count (2), more (2), then so many entries */
+    ZILGWERN_FLUSH = 5,   /* none: writes the memory table to a place and empties it */
+    ZILGWERN_TIDY = 6,    /* none: does one step of compaction; step (2), level (2) */
+    ZILGWERN_REPORT = 7   /* none; eight counts (2 each): free, live on levels 0 to 3, frozen, links, memory entries */
+};
+
+/* Results in replies. All but 0 come without a body; 16 to 20 leave the store as it was, and the run goes on. */
+enum {
+    ZILGWERN_DONE = 0,
+    ZILGWERN_UNKNOWN_KIND = 16,
+    ZILGWERN_WRONG_BODY = 17,    /* body length wrong for the kind */
+    ZILGWERN_MEMORY_FULL = 18,   /* put or delete of a key that the memory table lacks, and it holds 16: flush first */
+    ZILGWERN_WRONG_RANGE = 19,   /* scan with low above high */
+    ZILGWERN_NO_PLACE = 20,      /* fewer free places than the flush or the due merge writes */
+    ZILGWERN_NO_VALUE = 64,      /* look up: no value under this key */
+    ZILGWERN_NOTHING_TO_DO = 65  /* flush of an empty memory table; tidy with no step due */
+};
+
+/* Steps in the reply of a tidy. */
+enum { ZILGWERN_MOVED = 1, ZILGWERN_LINKED = 2, ZILGWERN_MERGED = 3 };
+
+/*
+ * Request: length of the whole (2), kind (2), body. A list is requests one behind the other.
+ * Reply: length of the whole (2), the request's kind (2), result (2), body.
+ * Entry, in the reply of a scan: length of the whole (2), 1 (2), key (8), value.
+ */
+
+/* What a run gives back beside its number. All 0 but for the letter where the run is refused. */
+typedef struct zilgwern_outcome {
+    uint64_t letter;  /* of a broken rule where the number is 5, else 0 */
+    uint64_t served;  /* requests served, refused ones included */
+    uint64_t written; /* bytes of the answer buffer that were written; those beyond are untouched */
+} zilgwern_outcome;
+
+ZILGWERN_STATIC_ASSERT(sizeof(zilgwern_outcome) == 24, "the outcome is 3 words of 64 bits");
+
+/* ---- Calls ------------------------------------------------------------------------------------------------------------ */
+
+/* Makes a new store in memory of any contents; the area's bytes stay as found. Gives 0, 1 or 2. */
+uint64_t zilgwern_make(uint8_t *area, size_t area_bytes, zilgwern_card *cards, size_t card_count, uint16_t *lists,
+                       size_t item_count, zilgwern_head *head, uint8_t *memory, uint64_t threshold);
+
+/* Checks whatever is lent and changes nothing but *letter. Gives 0, 1 or 5. */
+uint64_t zilgwern_check(const uint8_t *area, size_t area_bytes, const zilgwern_card *cards, size_t card_count,
+                        const uint16_t *lists, size_t item_count, const zilgwern_head *head, const uint8_t *memory,
+                        uint64_t *letter);
+
+/*
+ * Checks the store once, then serves the requests in order and writes their replies to the front of the answer buffer.
+ * Stops before a request when fewer than 1,024 bytes of the buffer remain: run the rest of the list again after that.
+ * Gives 0, 1, 3, 4 or 5.
+ */
+uint64_t zilgwern_run(uint8_t *area, size_t area_bytes, zilgwern_card *cards, size_t card_count, uint16_t *lists,
+                      size_t item_count, zilgwern_head *head, uint8_t *memory, const uint8_t *requests,
+                      size_t request_bytes, uint8_t *answer, size_t answer_bytes, zilgwern_outcome *outcome);
+
+#ifdef __cplusplus
+}
+#endif
+
+#endif
