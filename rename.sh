@@ -11,5 +11,6 @@ sed -i -E \
     -e '/^use table::(build|entry|judge|search);$/d' \
     -e '/^use book::(list|make|place|row);$/d' \
     -e '/^use read::(hit|look|reply|report);$/d' \
+    -e '/^use merger::tables;$/d' \
     -e 's/(^|[^:A-Za-z0-9_])plan::make_plan\(/\1planner::make_plan(/g' \
     "$@"

@@ -11,7 +11,6 @@ ghost use Rattle.compact.specs.Tidied.{Tidy, Mergeable, Choosable, Does}
 use book::head::Head;
 use descend::down;
 use graft::merge;
-use merger::tables;
 use plan::Plan;
 
 // The results of a tidy: done, nothing to do, no room.
