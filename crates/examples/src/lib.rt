@@ -25,7 +25,7 @@ pub fn value(out: &mut [u8])
     requires { ⌜ length (now out) ≡ 13 ⌝ }
     ensures { λ _. ⌜ now (out .exit) ≡ entryBytes aUnder5 ⌝ }
 {
-    build::put_entry(out, 0, limits::VALUE, Key { value: 5 }, b"A");
+    append::put_entry(out, 0, limits::VALUE, Key { value: 5 }, b"A");
 }
 
 // The delete mark under key 7.
@@ -33,7 +33,7 @@ pub fn mark(out: &mut [u8])
     requires { ⌜ length (now out) ≡ 12 ⌝ }
     ensures { λ _. ⌜ now (out .exit) ≡ entryBytes markUnder7 ⌝ }
 {
-    build::put_entry(out, 0, limits::DELETE_MARK, Key { value: 7 }, b"");
+    append::put_entry(out, 0, limits::DELETE_MARK, Key { value: 7 }, b"");
 }
 
 // The table of the two.
@@ -42,6 +42,6 @@ pub fn two(place: &mut [u8])
     ensures { λ _. ⌜ now (place .exit) ≡ tableBytes theTwo ⌝ }
 {
     build::clear(place);
-    build::append(place, limits::VALUE, Key { value: 5 }, b"A");
-    build::append(place, limits::DELETE_MARK, Key { value: 7 }, b"");
+    append::append(place, limits::VALUE, Key { value: 5 }, b"A");
+    append::append(place, limits::DELETE_MARK, Key { value: 7 }, b"");
 }

@@ -75,7 +75,7 @@ fn append_up_to(to: &mut [u8], s: &[u8], from: Spot, n: usize)
         let key = entry::key_at(s, at);
         let start = at + limits::ENTRY_HEAD;
         let end = at + len;
-        build::append(to, kind, key, &s[start..end]);
+        append::append(to, kind, key, &s[start..end]);
         at = end;
         i += 1;
     }
@@ -119,7 +119,7 @@ fn build_with(to: &mut [u8], s: &[u8], there: bool, kind: u16, key: Key, value: 
     };
     build::clear(to);
     append_up_to(to, s, first, here.index);
-    build::append(to, kind, key, value);
+    append::append(to, kind, key, value);
     append_up_to(to, s, behind(s, here, there), search::count(s));
 }
 

@@ -26,7 +26,7 @@ fn append_from(to: &mut [u8], s: &[u8], at: usize)
     let key = entry::key_at(s, at);
     let start = at + limits::ENTRY_HEAD;
     let end = at + len;
-    build::append(to, kind, key, &s[start..end]);
+    append::append(to, kind, key, &s[start..end]);
 }
 
 // Puts the entry at a position of a place behind the last of a table.

@@ -16,8 +16,8 @@ use Rattle.table.specs.Entry.{entryOf, entryBytes, lengthAt}
 use Rattle.table.specs.Table.{countOf, appended, Appends}
 use Rattle.table.proofs.Room.{wide, in-place}
 use Rattle.table.proofs.Writes.{append-written}
-use Rattle.build.proofs.append.Statement.{statement}
-use Rattle.build.proofs.append.Tie as tie
+use Rattle.append.proofs.append.Statement.{statement}
+use Rattle.append.proofs.append.Tie as tie
 
 -- What the contract says of the place, of its length in use l and of its count n.
 module _ (s : List ℕ) (kind : ℕ) (v : List ℕ) (p : Appends s kind v) where

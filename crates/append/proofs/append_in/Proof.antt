@@ -7,8 +7,8 @@ use lib.ListN.{length}
 use lib.Seq.{sets}
 use Rattle.number.proofs.Sets.{sets-back}
 use Rattle.table.specs.Limits.{placeSize}
-use Rattle.build.proofs.append_in.Statement.{statement}
-use Rattle.build.proofs.append_in.Tie as tie
+use Rattle.append.proofs.append_in.Statement.{statement}
+use Rattle.append.proofs.append_in.Tie as tie
 
 add-append : tie.Need-add-append
 add-append c = search needs

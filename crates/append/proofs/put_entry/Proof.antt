@@ -15,8 +15,8 @@ use Rattle.table.specs.Limits.{entryHead, entryLimit}
 use Rattle.table.specs.Entry.{entryForm, entryOf, entryBytes}
 use Rattle.table.proofs.Form.{formed}
 use Rattle.table.proofs.Writes.{entry-written}
-use Rattle.build.proofs.put_entry.Statement.{statement}
-use Rattle.build.proofs.put_entry.Tie as tie
+use Rattle.append.proofs.put_entry.Statement.{statement}
+use Rattle.append.proofs.put_entry.Tie as tie
 
 -- What lies in the head of an entry with v bytes of value, or ends with its value, lies in a slice with room for it.
 module _ (at v n m : ℕ) (room : at + (entryHead + v) ≤ n) (same : m ≡ n) where
