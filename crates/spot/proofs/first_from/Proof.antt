@@ -10,10 +10,10 @@ use Rattle.table.specs.Entry.{lengthAt}
 use Rattle.table.specs.Table.{countOf, entries, entriesAt}
 use Rattle.table.specs.Search.{positionIn}
 use Rattle.table.proofs.Position.{Stands, stands, position-first, position-step}
-use Rattle.memtable.specs.Put.{below}
-use Rattle.memtable.proofs.Turn.{below-turn, below-end}
-use Rattle.memtable.proofs.first_from.Statement.{statement}
-use Rattle.memtable.proofs.first_from.Tie as tie
+use Rattle.spot.specs.Appends.{below}
+use Rattle.spot.proofs.Turn.{below-turn, below-end}
+use Rattle.spot.proofs.first_from.Statement.{statement}
+use Rattle.spot.proofs.first_from.Tie as tie
 
 abbrev Inv-loop : tie.InvT-loop
 Inv-loop s key n i₀ at₀ i at =

@@ -2,9 +2,9 @@
 use native.Mathlib.Omega.{arith}
 use borrow.Author.Needs.{needs}
 use Rattle.table.proofs.Position.{Stands, stands, position-step}
-use Rattle.memtable.proofs.Turn.{small}
-use Rattle.memtable.proofs.behind.Statement.{statement}
-use Rattle.memtable.proofs.behind.Tie as tie
+use Rattle.spot.proofs.Turn.{small}
+use Rattle.spot.proofs.behind.Statement.{statement}
+use Rattle.spot.proofs.behind.Tie as tie
 
 here : (c : tie.Then1)
     → Stands (c .before .before .args .s .now) (c .before .before .args .here .at)

@@ -19,7 +19,7 @@ use Rattle.table.proofs.Form.{formed, length-kept}
 use Rattle.table.proofs.Position.{memory-good}
 use Rattle.table.proofs.Found.{shown-find, entryAt-key}
 use Rattle.ldc.specs.Lists.{isSome}
-use Rattle.memtable.specs.Put.{below, appends, Room}
+use Rattle.spot.specs.Appends.{below, appends, Room}
 
 -- An entry is there where the search of the bytes has found one.
 pub held : (s : List ℕ) (k at : ℕ) → findIn s k ≡ At at → isSome (find k (entries s)) ≡ true

@@ -12,10 +12,10 @@ use Rattle.table.specs.Table.{entriesAt, appended}
 use Rattle.table.specs.Search.{positionIn}
 use Rattle.table.proofs.Position.{Stands, stands, position-step}
 use Rattle.table.proofs.Append.{length-appended}
-use Rattle.memtable.specs.Put.{appends, Room}
-use Rattle.memtable.proofs.Turn.{appends-turn, appends-end, room-turn, entry-long}
-use Rattle.memtable.proofs.append_up_to.Statement.{statement}
-use Rattle.memtable.proofs.append_up_to.Tie as tie
+use Rattle.spot.specs.Appends.{appends, Room}
+use Rattle.spot.proofs.Turn.{appends-turn, appends-end, room-turn, entry-long}
+use Rattle.spot.proofs.append_up_to.Statement.{statement}
+use Rattle.spot.proofs.append_up_to.Tie as tie
 
 abbrev Inv-loop : tie.InvT-loop
 Inv-loop to₀ s n i₀ at₀ to i at =

@@ -1,9 +1,9 @@
 -- `holds` meets its contract: what the search of the bytes finds is what the entries have.
 use mathlib.Core.Path.{sym, _∙_}
 use borrow.Author.Needs.{needs}
-use Rattle.memtable.proofs.Turn.{held, missed}
-use Rattle.memtable.proofs.holds.Statement.{statement}
-use Rattle.memtable.proofs.holds.Tie as tie
+use Rattle.spot.proofs.Turn.{held, missed}
+use Rattle.spot.proofs.holds.Statement.{statement}
+use Rattle.spot.proofs.holds.Tie as tie
 
 find-requires : tie.Need-find-requires
 find-requires c κs = search needs
