@@ -1,4 +1,4 @@
-// Tidy: the step that is due is named and done, or refused, or there is nothing to do.
+// Flush and tidy. A tidy names the step that is due and does it, or refuses it, or there is nothing to do.
 ghost use mathlib.Core.Path.{_≡_};
 ghost use mathlib.Core.List.{List};
 ghost use Prim.Native.Nat.{ℕ};
@@ -13,7 +13,9 @@ use descend::down;
 use graft::merge;
 use plan::Plan;
 
-// The results of a tidy: done, nothing to do, no room.
+pub mod flush;
+
+// The results of a flush and of a tidy: done, no room, nothing to do.
 const DONE: u16 = 0;
 
 const NO_ROOM: u16 = 20;

@@ -4,19 +4,17 @@ use mathlib.Core.Path.{_≡_, refl, sym, _∙_, ap}
 use mathlib.Core.Bool.{true, false}
 use mathlib.Core.List.{List, [], _∷_, List·Memᴰ}
 use native.Mathlib.Omega.{arith}
-use lib.ListN.{length, getD, set}
+use lib.ListN.{length, getD, set, length-map}
 use Rattle.table.specs.Limits.{placeSize}
 use Rattle.table.specs.Table.{entries, placeAt}
 use Rattle.ldc.specs.Lists.{isEmpty}
-use Rattle.ldc.specs.Store.{Store, frozen, card, links, bytesAt, table, level, spanEnd, withCard, withLevel}
-use Rattle.ldc.specs.Lent.{Lent, placesIn, listLength, storeOf, lentOf, rowOf}
+use Rattle.ldc.specs.Store.{Store, size, frozen, card, links, bytesAt, table, level, spanEnd, withCard, withLevel}
+use Rattle.ldc.specs.Lent.{Lent, placesIn, listLength, cardOf, storeOf, lentOf, rowOf}
 use Rattle.ldc.specs.Tidy.{Slice, Reach, moved, linked, responsible, holding, slicesOf, downStep}
 use Rattle.ldc.specs.Steps.{replaced, leaves, doMove, hang, doLink}
 use Rattle.ldc.proofs.Basics.ListLaws.{getD-mem, mem-getD}
-use Rattle.ldc.proofs.Basics.Replaced.{split}
 use Rattle.ldc.proofs.Lent.Changes.{cards-withCard}
-use Rattle.ldc.proofs.Lent.Round.{level-fits}
-use Rattle.ldc.proofs.Lent.Shows.{sizes, size-storeOf, lentOf-storeOf}
+use Rattle.ldc.proofs.Lent.Shows.{sizes, lentOf-storeOf}
 use Rattle.ldc.proofs.Stores.Changes.{card-other}
 use Rattle.ldc.proofs.Stores.Facts.{listed-live, listed-once, level-spans}
 use Rattle.ldc.proofs.Stores.Frame.{map-cong, spanEnd-same, links-same}
@@ -30,7 +28,8 @@ use Rattle.read.proofs.Levels.{sound-kept, levels-kept}
 use Rattle.read.proofs.Pieces.{bytes-shown, level-items, level-length}
 use Rattle.read.proofs.Rank.{spans}
 use Rattle.read.proofs.Shows.{carded}
-use Rattle.descend.specs.Listing.{Fits, Listing}
+use Rattle.writer.specs.Shown.{Fits}
+use Rattle.writer.proofs.Keeping.{fits-kept}
 use Rattle.descend.specs.Range.{slicesFrom, hungRows, Below}
 use Rattle.descend.specs.Down.{Ready}
 use Rattle.descend.proofs.Hung.{Open, live-row, hung-cards}
@@ -91,16 +90,15 @@ module _ (m : Lent) (n p : ℕ) (r : Ready m n p) where
   pub ready-length : (i : ℕ) → i < 4 → getD (m .head) (6 + i) 0 ≤ length (m .cards)
   ready-length i h = L .lengths i h
 
-  pub ready-fits : Fits (length (m .cards)) s
-  ready-fits = record {
-    four = S .four;
-    two = S .two;
-    placed = S .placed ∙ size-storeOf m (r .kept .sizes) ∙ places;
-    short = λ i. omega (arith, level-fits s S i, size-storeOf m (r .kept .sizes), places);
-  }
+  pub ready-fits : Fits s
+  ready-fits = fits-kept m (r .shape) (r .kept)
 
-  pub ready-listing : Listing s (m .lists) (m .head)
-  ready-listing = record { inLists = ap (λ (x : Lent). x .lists) back; inHead = ap (λ (x : Lent). x .head) back }
+  pub ready-size : length (m .cards) ≡ size s
+  unfolding storeOf size
+  ready-size = sym (length-map (m .cards) cardOf)
+
+  pub ready-shown : (m .lists ≡ lentOf s .lists) × (m .head ≡ lentOf s .head)
+  ready-shown = (sym (ap (λ (x : Lent). x .lists) back), sym (ap (λ (x : Lent). x .head) back))
 
   items : (i : ℕ) → i < 4 → level s i ≡ itemsIn (length (m .cards)) (m .lists) (m .head) i
   unfolding listLength
@@ -161,16 +159,6 @@ module _ (m : Lent) (n p : ℕ) (r : Ready m n p) where
 
   -- ---- the step
 
-  stays : length (replaced p [] (level s n)) ≤ length (m .cards)
-  stays =
-      let t = split p (level s n) (r .chosen .on) in
-      let a = ap length (t .whole) in
-      let c = ap length (t .other []) in
-      omega (arith, a, c, lib.ListN.length-append (t .front) (p ∷ t .back), lib.ListN.length-append (t .front) (t .back), ready-fits .short n)
-
-  pub left-fits : Fits (length (m .cards)) (leaves n p s)
-  left-fits = Rattle.descend.proofs.Listings.leaves-fits (length (m .cards)) s ready-fits n p (omega (arith, ready-level)) stays
-
   pub left-empty : length (level s (suc n)) ≡ 0 → level (leaves n p s) (suc n) ≡ []
   unfolding leaves level
   left-empty h =
@@ -196,15 +184,16 @@ module _ (m : Lent) (n p : ℕ) (r : Ready m n p) where
       filled [] e = absurd (e refl)
       filled (x ∷ xs) e = refl
 
-  pub moved-lent : (lists head : List ℕ) → Listing (withLevel (suc n) (p ∷ []) (leaves n p s)) lists head
+  pub moved-lent : (lists head : List ℕ) → lists ≡ lentOf (withLevel (suc n) (p ∷ []) (leaves n p s)) .lists
+      → head ≡ lentOf (withLevel (suc n) (p ∷ []) (leaves n p s)) .head
       → lent (m .area) (m .cards) lists head (m .memory) ≡ lentOf (doMove n p s)
   unfolding doMove leaves
-  moved-lent lists head g =
+  moved-lent lists head gl gh =
       let a : lentOf s .area ≡ lentOf (doMove n p s) .area = unfold lentOf doMove leaves in refl in
       let c : lentOf s .cards ≡ lentOf (doMove n p s) .cards = unfold lentOf doMove leaves in refl in
       let y : lentOf s .memory ≡ lentOf (doMove n p s) .memory = unfold lentOf doMove leaves in refl in
       lent-is (m .area) (m .cards) lists head (m .memory) (lentOf (doMove n p s))
-      (sym (ap (λ (x : Lent). x .area) back) ∙ a) (sym (ap (λ (x : Lent). x .cards) back) ∙ c) (sym (g .inLists)) (sym (g .inHead))
+      (sym (ap (λ (x : Lent). x .area) back) ∙ a) (sym (ap (λ (x : Lent). x .cards) back) ∙ c) gl gh
       (sym (ap (λ (x : Lent). x .memory) back) ∙ y)
 
   -- The slices, as area and cards show them.
@@ -237,10 +226,10 @@ module _ (m : Lent) (n p : ℕ) (r : Ready m n p) where
 
   pub linked-lent : (cards : List (List ℕ)) (lists head : List ℕ)
       → cards ≡ hungRows (slicesFrom (shownBy (m .area) (m .cards)) (entries (placeAt (p * placeSize) (m .area))) p 0 below) (set (m .cards) p (rowOf frozen))
-      → Listing (leaves n p s) lists head
+      → lists ≡ lentOf (leaves n p s) .lists → head ≡ lentOf (leaves n p s) .head
       → lent (m .area) cards lists head (m .memory) ≡ lentOf (doLink n p (slicesOf s n p) s)
   unfolding doLink
-  linked-lent cards lists head ce g =
+  linked-lent cards lists head ce gl gh =
       let rs = slicesOf s n p in
       let a : lentOf s .area ≡ lentOf first .area = unfold lentOf leaves in refl in
       let l : lentOf (leaves n p s) .lists ≡ lentOf first .lists = unfold lentOf in refl in
@@ -249,5 +238,5 @@ module _ (m : Lent) (n p : ℕ) (r : Ready m n p) where
       lent-is (m .area) cards lists head (m .memory) (lentOf (doLink n p rs s))
       (sym (ap (λ (x : Lent). x .area) back) ∙ a ∙ sym (hang-area rs first))
       (ce ∙ ap (λ (xs : List Slice). hungRows xs (set (m .cards) p (rowOf frozen))) slices-shown ∙ linked-cards)
-      (sym (g .inLists) ∙ l ∙ sym (hang-lists rs first)) (sym (g .inHead) ∙ h ∙ sym (hang-head rs first))
+      (gl ∙ l ∙ sym (hang-lists rs first)) (gh ∙ h ∙ sym (hang-head rs first))
       (sym (ap (λ (x : Lent). x .memory) back) ∙ y ∙ sym (hang-memory rs first))

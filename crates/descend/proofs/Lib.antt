@@ -1,5 +1,5 @@
 -- The laws of `descend`.
---   Listings   leaving and joining a level
+--   Listings   a level left with its mark set, and an empty one joined
 --   Slices     the slices to hang, one at a time
 --   Rows       rows that gain a link
 --   Turns      one turn of the loop that hangs slices

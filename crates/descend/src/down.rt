@@ -9,8 +9,8 @@ ghost use Rattle.book.specs.Head.{headWords};
 ghost use Rattle.book.specs.Made.{lent};
 ghost use Rattle.descend.specs.Down.{Ready, stepNumber};
 use crate::hang;
-use crate::level;
 use book::head::Head;
+use writer::level;
 
 // Numbers of the steps.
 pub const MOVED: u16 = 1;
@@ -23,7 +23,8 @@ pub struct Down {
     pub head: Head,
 }
 
-// Takes the chosen table p of level n one level down: it moves if the next level is empty, and is linked otherwise.
+// Takes the chosen table p of level n one level down: it moves if the next level is empty, and is linked otherwise. The level's mark becomes its
+// greatest own key.
 pub fn go_down(
     area: &[u8],
     cards: &mut [[u64; 26]],
@@ -44,10 +45,12 @@ pub fn go_down(
     let places = cards.len();
     let mark = block::greatest(area, p);
     let below = head.length_of(n + 1);
+    let marked = head.with_mark(n, mark);
     let item = p as u16;
+    let none = [0u16; 0];
     if below == 0 {
-        let left = level::leave(lists, head, places, n, item, mark);
-        let joined = level::join(lists, left, places, n + 1, item);
+        let left = level::replace(lists, places, marked, n, item, &none);
+        let joined = level::join(lists, places, left, n + 1, item);
         return Down {
             step: MOVED,
             head: joined,
@@ -56,7 +59,7 @@ pub fn go_down(
     let start = (n + 1) * places;
     let end = start + below;
     hang::link(area, cards, &lists[start..end], p);
-    let left = level::leave(lists, head, places, n, item, mark);
+    let left = level::replace(lists, places, marked, n, item, &none);
     Down {
         step: LINKED,
         head: left,

@@ -3,5 +3,4 @@
 // Only the tables that gain a link and those of a binary search for each are read. What the lent pieces must be like is said in specs/Down.
 pub mod down;
 pub mod hang;
-pub mod level;
 pub mod range;

@@ -1,9 +1,11 @@
 -- The laws of `graft`.
 --   Many      several tables written
+--   Placed    their places in the list for the old one
 --   Freeing   which places are named and freed, over rows and in the store
 --   Merging   what the doing of a merge leaves
 --   Ready     a merge that is ready, with any memory table
 pub mod Many
+pub mod Placed
 pub mod Freeing
 pub mod Merging
 pub mod Ready

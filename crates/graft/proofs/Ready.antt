@@ -14,10 +14,10 @@ use Rattle.ldc.proofs.Stores.Sound.{Sound}
 use Rattle.ldc.proofs.Steps.StepFacts.{Merging}
 use Rattle.book.specs.Made.{lent}
 use Rattle.writer.specs.Shown.{Fits, Shows}
-use Rattle.graft.specs.Tables.{Tables}
+use Rattle.graft.specs.Tables.{Tables, Placing}
 use Rattle.graft.specs.Merge.{Backed, Merges}
 use Rattle.writer.proofs.Keeping.{shape-of, sound-kept, fits-kept, shows-kept, lists-kept, lent-kept}
-use Rattle.graft.proofs.Merging.{tables-merged}
+use Rattle.graft.proofs.Merging.{tables-merged, merge-placing}
 
 module _ (area : List ℕ) (cards : List (List ℕ)) (lists head x y : List ℕ) where
   level-same : (n : ℕ) → level (storeOf (lent area cards lists head x)) n ≡ level (storeOf (lent area cards lists head y)) n
@@ -39,9 +39,8 @@ pub record Ready (m : Lent) (n p : ℕ) (out : List ℕ) (k : ℕ) : Type 0 wher
   pub merging : Merging (storeOf m) n p
   pub enough : length (mergedTables (storeOf m) n p) ≤ freePlaces (storeOf m)
   pub many : length (mergedTables (storeOf m) n p) ≡ k
-  pub told : Tables out k (mergedTables (storeOf m) n p)
   pub shows : Shows (m .area) (m .cards) (m .head) (storeOf m)
-  pub lists : m .lists ≡ lentOf (storeOf m) .lists
+  pub placing : Placing (m .area) (m .cards) (m .lists) (m .head) n p out k (storeOf m) (mergedTables (storeOf m) n p)
   pub memory : m .memory ≡ lentOf (storeOf m) .memory
 
 module _ (area : List ℕ) (cards : List (List ℕ)) (lists head : List ℕ) (n p : ℕ) (out : List ℕ) (k : ℕ) (g : Merges area cards lists head n p out k)
@@ -65,6 +64,11 @@ module _ (area : List ℕ) (cards : List (List ℕ)) (lists head : List ℕ) (n 
   enough : length (mergedTables (storeOf m) n p) ≤ freePlaces (storeOf m)
   enough = omega (arith, many, g .room, free-same area cards lists head memory (g .memory))
 
+  told : Tables out k (mergedTables (storeOf m) n p)
+  told =
+      tables-merged (storeOf m) (sound-kept m shape (b .kept)) (fits-kept m shape (b .kept)) n p merging enough out k many
+      (rw (tables-same area cards lists head memory (g .memory) n p) (g .tables))
+
   pub ready : Ready m n p out k
   ready = record {
     sound = sound-kept m shape (b .kept);
@@ -72,9 +76,8 @@ module _ (area : List ℕ) (cards : List (List ℕ)) (lists head : List ℕ) (n 
     merging = merging;
     enough = enough;
     many = many;
-    told = tables-merged (storeOf m) (sound-kept m shape (b .kept)) (fits-kept m shape (b .kept)) n p merging enough out k many
-        (rw (tables-same area cards lists head memory (g .memory) n p) (g .tables));
     shows = shows-kept m shape (b .kept);
-    lists = lists-kept m shape (b .kept);
+    placing = merge-placing (storeOf m) (sound-kept m shape (b .kept)) (fits-kept m shape (b .kept)) n p merging enough area cards lists head out k
+        (shows-kept m shape (b .kept)) (lists-kept m shape (b .kept)) told;
     memory = ap (λ (z : Lent). z .memory) (sym (lent-kept m shape (b .kept)));
   }

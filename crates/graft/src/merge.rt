@@ -10,7 +10,6 @@ ghost use Rattle.graft.specs.Merge.{Backed, Merges};
 use crate::release;
 use crate::tables;
 use book::head::Head;
-use writer::level;
 
 // Does the merge of place p on level n, whose tables are the first k of `out`: they are written and take its place in the level's list; then it
 // is freed, and every frozen table that only its links named. What is left is said for every memory table.
@@ -32,10 +31,7 @@ pub fn finish_merge(
         ⌝ }
 {
     let row = cards[p];
-    let mut taken = [0u16; tables::MOST];
-    let filled = tables::write_all(area, cards, head, out, k, &mut taken);
-    let size = cards.len();
-    let done = level::replace(lists, size, filled, n, p as u16, &taken[..k]);
+    let done = tables::write_all(area, cards, lists, head, n, p, out, k);
     row::set_state(cards, p, row::FREE);
     release::release(cards, row);
     done

@@ -13,6 +13,7 @@
 --   MergeShape    what a merge leaves, place by place
 --   Merge         a merge keeps a store sound
 --   MergeView     a merge changes no value
+--   Writes        a tidy writes at most nine places, a flush one
 pub mod StepFacts
 pub mod SoundMemory
 pub mod Flush
@@ -28,3 +29,4 @@ pub mod LinkView
 pub mod MergeShape
 pub mod Merge
 pub mod MergeView
+pub mod Writes

@@ -1,7 +1,7 @@
 -- Tidy: the named step is done. Move, link and merge, and what each leaves.
 use Prim.Native.Nat.{ℕ, zero, suc}
 use mathlib.Core.List.{List, [], _∷_, _++_, map}
-use mathlib.Core.Bool.{cond}
+use mathlib.Core.Bool.{Bool, true, false, cond, _&&_}
 use mathlib.Core.Option.{Option, some}
 use lib.Dec.{eqb}
 use lib.ListN.{set}
@@ -70,3 +70,19 @@ stepServed (merged n p) s = done (doMerge n p s) (bytesOf 2 3 ++ bytesOf 2 n)
 
 unfoldable pub serveTidy : Store → Served
 serveTidy s = stepServed (tidyStep s) s
+
+-- ---- how much a step writes
+
+-- Are these the same bytes?
+abbrev pub sameBytes : List ℕ → List ℕ → Bool
+sameBytes [] [] = true
+sameBytes [] (y ∷ ys) = false
+sameBytes (x ∷ xs) [] = false
+sameBytes (x ∷ xs) (y ∷ ys) = eqb x y && sameBytes xs ys
+
+-- How many places have other bytes than before? (One that is there before or after only counts.)
+abbrev pub placesChanged : (before after : List (List ℕ)) → ℕ
+placesChanged [] [] = 0
+placesChanged [] (b ∷ bs) = suc (placesChanged [] bs)
+placesChanged (a ∷ as′) [] = suc (placesChanged as′ [])
+placesChanged (a ∷ as′) (b ∷ bs) = cond (sameBytes a b) (placesChanged as′ bs) (suc (placesChanged as′ bs))

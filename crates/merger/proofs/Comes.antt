@@ -23,6 +23,7 @@ use Rattle.ldc.specs.Tidy.{greatest, mergedEntries}
 use Rattle.ldc.proofs.Basics.Cases.{cases, maybe, clash}
 use Rattle.ldc.proofs.Entries.Finds.{find-gather}
 use Rattle.ldc.proofs.Entries.Keys.{keys-order, keys-gather, find-above}
+use Rattle.ldc.proofs.Entries.Few.{valid-keys}
 use Rattle.read.specs.Shown.{shownBy, Tabled, Legible}
 use Rattle.read.specs.Hit.{Hits}
 use Rattle.least.specs.Least.{leastFrom, firstOf}
@@ -31,7 +32,7 @@ use Rattle.read.specs.declared.hit.Hit.the-variants.{At, Nothing}
 use Rattle.least.proofs.LeastKey.{least-gather, least-found}
 use Rattle.least.proofs.Ranges.{behind, within-raise, within-over, within-empty, within-step}
 use Rattle.merger.specs.Merge.{staysOn, comesOut, mergedIn, fromKey, Leads}
-use Rattle.merger.proofs.Sources.{sources-valid, valid-keys}
+use Rattle.merger.proofs.Sources.{sources-valid}
 use Rattle.merger.proofs.Merged.{merged-rising}
 
 -- ---- from a key on

@@ -1,5 +1,5 @@
 -- The entries that come out of a merge are rising, valid and at most 144, so that at most nine tables come out; and the tables, one by one.
-use Prim.Native.Nat.{ℕ, zero, suc, _+_, _*_, _≤_, _^_}
+use Prim.Native.Nat.{ℕ, zero, suc, _≤_, _^_}
 use mathlib.Core.Path.{_≡_, refl, ap}
 use mathlib.Core.List.{List, [], _∷_, List·Memᴰ·head}
 use native.Mathlib.Omega.{arith}
@@ -13,11 +13,12 @@ use Rattle.table.proofs.Decode.{valid-size}
 use Rattle.ldc.specs.Store.{sources}
 use Rattle.ldc.specs.Read.{gather}
 use Rattle.ldc.specs.Tidy.{cutIn, cut, mergedEntries, mergedTables}
-use Rattle.ldc.proofs.Entries.Cut.{cut-pieces}
+use Rattle.ldc.proofs.Entries.Cut.{cut-pieces, cut-few}
+use Rattle.ldc.proofs.Entries.Few.{keep-few, gather-few, valid-keys, valid-values}
 use Rattle.ldc.proofs.Entries.Keys.{keys-gather, keys-keep, values-gather, values-keep}
 use Rattle.read.specs.Shown.{shownBy, Tabled, Legible}
 use Rattle.merger.specs.Merge.{staysOn, mergedIn, tablesOut}
-use Rattle.merger.proofs.Sources.{sources-valid, sources-few, gather-few, keep-few, valid-keys, valid-values}
+use Rattle.merger.proofs.Sources.{sources-valid, sources-few}
 
 -- ---- cutting
 
@@ -44,16 +45,6 @@ cut-turn (e ∷ es) h =
 pub cut-none : cut [] ≡ []
 unfolding cut
 cut-none = refl
-
-cutIn-few : (n : ℕ) (es : List Entry) → tableLimit * length (cutIn n es) ≤ length es + 15
-cutIn-few zero es = omega arith
-cutIn-few (suc n) [] = omega arith
-cutIn-few (suc n) (e ∷ es) =
-    let r = cutIn-few n (drop tableLimit (e ∷ es)) in omega (arith, length-drop tableLimit (e ∷ es))
-
-pub cut-few : (es : List Entry) → tableLimit * length (cut es) ≤ length es + 15
-unfolding cut
-cut-few es = cutIn-few (length es) es
 
 -- A table of valid entries fills its place.
 pub piece-long : (es : List Entry) → Keys 0 (2 ^ 64) es → Values es → 1 ≤ length es → length (tableBytes (take tableLimit es)) ≡ placeSize

@@ -2,8 +2,6 @@
 --   Levels    a level's list in its part of the lent lists
 --   Fitting   what the pieces of a store that fits are, and after one write
 --   Keeping   the store that kept memory shows
---   Flushing  what a flush leaves
 pub mod Levels
 pub mod Fitting
 pub mod Keeping
-pub mod Flushing

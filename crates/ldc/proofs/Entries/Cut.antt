@@ -1,6 +1,6 @@
 -- Cutting a list of entries into tables of 16: the tables one after the other are the list, each has 1 to 16 entries, and their spans rise.
 -- By induction on the number that bounds how many tables there can be.
-use Prim.Native.Nat.{ℕ, zero, suc, _≤_, _^_}
+use Prim.Native.Nat.{ℕ, zero, suc, _+_, _*_, _≤_, _^_}
 use mathlib.Core.Path.{_≡_, refl, _∙_, ap}
 use mathlib.Core.List.{List, [], _∷_, _++_, map, List·Memᴰ, List·Memᴰ·head, List·Memᴰ·tail, List·Memᴰ·cases-cons}
 use mathlib.Core.Logic.{⊎-elim}
@@ -28,6 +28,18 @@ flat-cutIn (suc n) (e ∷ es) h =
 pub flat-cut : (es : List Entry) → flat (cut es) ≡ es
 unfolding cut
 flat-cut es = flat-cutIn (length es) es (omega arith)
+
+-- ---- how many tables there are
+
+cutIn-few : (n : ℕ) (es : List Entry) → tableLimit * length (cutIn n es) ≤ length es + 15
+cutIn-few zero es = omega arith
+cutIn-few (suc n) [] = omega arith
+cutIn-few (suc n) (e ∷ es) =
+    let r = cutIn-few n (drop tableLimit (e ∷ es)) in omega (arith, length-drop tableLimit (e ∷ es))
+
+pub cut-few : (es : List Entry) → tableLimit * length (cut es) ≤ length es + 15
+unfolding cut
+cut-few es = cutIn-few (length es) es
 
 -- ---- each table is valid
 

@@ -241,14 +241,14 @@ pub record Merged (s : Store) (n p : ℕ) : Type 0 where
 
 -- A merge is done or refused, and a table that goes down is moved or linked.
 module _ {P : Type 0} (s : Store) (n p : ℕ) where
-  merge-cases : (length (mergedTables s n p) ≤ freePlaces s → mergeStep s n p ≡ merged n p → P) → (mergeStep s n p ≡ refused → P) → P
+  pub merge-cases : (length (mergedTables s n p) ≤ freePlaces s → mergeStep s n p ≡ merged n p → P) → (mergeStep s n p ≡ refused → P) → P
   unfolding mergeStep
   merge-cases m r =
       cases (leb (length (mergedTables s n p)) (freePlaces s))
       (λ q. m (leb-true (length (mergedTables s n p)) (freePlaces s) q) (rw q))
       (λ q. r (rw q))
 
-  down-cases : (level s (suc n) ≡ [] → downStep s n p ≡ moved n p → P)
+  pub down-cases : (level s (suc n) ≡ [] → downStep s n p ≡ moved n p → P)
       → (isEmpty (level s (suc n)) ≡ false → downStep s n p ≡ linked n p (slicesOf s n p) → P) → P
   unfolding downStep
   down-cases m l =
