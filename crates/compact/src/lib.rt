@@ -1,4 +1,4 @@
-// Flush and tidy. A tidy names the step that is due and does it, or refuses it, or there is nothing to do.
+// Tidy: names the step that is due and does it, or refuses it, or there is nothing to do.
 ghost use mathlib.Core.Path.{_≡_};
 ghost use mathlib.Core.List.{List};
 ghost use Prim.Native.Nat.{ℕ};
@@ -9,18 +9,10 @@ ghost use Rattle.book.specs.Made.{lent};
 ghost use Rattle.graft.specs.Merge.{Backed};
 ghost use Rattle.compact.specs.Tidied.{Tidy, Mergeable, Choosable, Does};
 use book::head::Head;
-use descend::down;
-use graft::merge;
+use flush::DONE;
+use flush::NO_ROOM;
+use flush::NOTHING_TO_DO;
 use plan::Plan;
-
-pub mod flush;
-
-// The results of a flush and of a tidy: done, no room, nothing to do.
-const DONE: u16 = 0;
-
-const NO_ROOM: u16 = 20;
-
-const NOTHING_TO_DO: u16 = 65;
 
 // The step of a merge, as its reply says it.
 const MERGED: u16 = 3;
