@@ -9,9 +9,6 @@ ghost use Rattle.book.specs.Made.{lent};
 ghost use Rattle.graft.specs.Merge.{Backed};
 ghost use Rattle.compact.specs.Tidied.{Tidy, Mergeable, Choosable, Does};
 use book::head::Head;
-use descend::down;
-use graft::merge;
-use merger::tables;
 use plan::Plan;
 
 pub mod flush;

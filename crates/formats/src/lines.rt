@@ -3,9 +3,7 @@ ghost use mathlib.Core.Path.{_≡_};
 ghost use Prim.Native.Nat.{_+_, _≤_};
 ghost use lib.ListN.{length};
 ghost use Rattle.table.specs.Table.{tableBytes};
-ghost use Rattle.formats.specs.Examples.{theTwo};
-use crate::examples;
-use crate::hex;
+ghost use Rattle.examples.specs.Examples.{theTwo};
 use key::Key;
 use table::search::Found;
 

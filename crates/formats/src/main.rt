@@ -1,6 +1,4 @@
 // The examples of docs/FORMATS.md, built by the functions that the store is made of and written out, a line each.
-mod examples;
-mod hex;
 mod lines;
 
 fn main() {

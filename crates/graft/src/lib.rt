@@ -1,4 +1,3 @@
-// The doing of a merge once its tables are known: written, put in the old one's place, and what is left without links freed.
-pub mod merge;
-pub mod release;
-pub mod tables;
+// The doing of a merge once its tables are known: what it leaves, and what it is proved with. It has no code.
+//
+// The crate `placing` writes the tables and puts them in the old one's place, `release` frees what is left without links, `merge` does both.

@@ -124,7 +124,7 @@ fn copy_entry(s: &[u8], from: usize, answer: &mut [u8], at: usize) -> usize
     let key = entry::key_at(s, from);
     let start = from + limits::ENTRY_HEAD;
     let end = from + len;
-    build::put_entry(answer, at, kind, key, &s[start..end]);
+    append::put_entry(answer, at, kind, key, &s[start..end]);
     len
 }
 

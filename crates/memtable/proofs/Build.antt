@@ -19,8 +19,9 @@ use Rattle.table.proofs.Decode.{head-shown, length-tableBytes}
 use Rattle.table.proofs.Append.{append-encode, length-snoc}
 use Rattle.ldc.specs.Lists.{isSome}
 use Rattle.ldc.specs.Memtable.{put}
-use Rattle.memtable.specs.Put.{below, appends, Room, Puts}
-use Rattle.memtable.proofs.Turn.{entry-long}
+use Rattle.spot.specs.Appends.{below, appends, Room}
+use Rattle.memtable.specs.Put.{Puts}
+use Rattle.spot.proofs.Turn.{entry-long}
 use Rattle.memtable.proofs.Split.{below-few, below-fewer, next, put-split}
 
 -- Entries of at most 60 bytes.

@@ -17,7 +17,7 @@ use Rattle.table.proofs.Position.{good-entry}
 use Rattle.table.proofs.Found.{entryAt-key}
 use Rattle.ldc.specs.Lists.{isSome}
 use Rattle.ldc.specs.Memtable.{put}
-use Rattle.memtable.specs.Put.{below}
+use Rattle.spot.specs.Appends.{below}
 
 -- Below the first key nothing is found.
 none-below : (k n : ℕ) (s : List ℕ) (at least end : ℕ) → entriesGood n s at least end ≡ true → k < least → find k (entriesAt n s at) ≡ none

@@ -1,3 +1,3 @@
 -- What a reader of `memtable` must believe besides the definition of the store: what a put leaves in the bytes.
---   Put   the number and the bytes after a put, and the steps in which the new table is built
+--   Put   the number and the bytes after a put, and what may be put
 pub mod Put

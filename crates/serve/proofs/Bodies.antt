@@ -1,15 +1,14 @@
 -- Bodies of requests: which lengths are good, kind by kind; the key and the value in them; and a reply without a body.
-use Prim.Native.Nat.{ℕ, _+_, _-_, _≤_, _<_}
+use Prim.Native.Nat.{ℕ, _+_, _-_, _≤_}
 use mathlib.Core.Path.{_≡_, refl, sym, _∙_, ap}
-use mathlib.Core.Bool.{Bool, true, false, cond, _&&_, _||_}
-use mathlib.Core.List.{List, []}
+use mathlib.Core.Bool.{true, cond, _&&_}
+use mathlib.Core.List.{List}
 use native.Mathlib.Omega.{arith}
 use borrow.Author.Tests.{le-leb, lt-leb, ne-eqb, eqb-true, eqb-false}
 use lib.Dec.{leb, eqb}
 use lib.ListN.{length, take, drop, length-drop}
-use lib.Seq.{sets, take-length}
-use Rattle.table.specs.Limits.{entryHead, valueLimit}
-use Rattle.table.specs.Entry.{entryForm}
+use lib.Seq.{take-length}
+use Rattle.table.specs.Limits.{entryHead}
 use Rattle.ldc.specs.Request.{known, bodyGood, valueIn}
 use Rattle.ldc.proofs.Basics.Cases.{cases}
 
@@ -49,8 +48,14 @@ module _ (len : ℕ) where
   pub good-none : (kind : ℕ) → 5 ≤ kind → kind ≤ 7 → eqb len 0 ≡ cond (known kind) (bodyGood kind len) true
   unfolding known bodyGood
   good-none kind low high =
-      rw (le-leb 1 kind (omega arith), le-leb kind 7 high, ne-eqb kind 1 (λ e. omega arith), ne-eqb kind 2 (λ e. omega arith),
-          ne-eqb kind 3 (λ e. omega arith), ne-eqb kind 4 (λ e. omega arith))
+      rw (
+        le-leb 1 kind (omega arith),
+        le-leb kind 7 high,
+        ne-eqb kind 1 (λ e. omega arith),
+        ne-eqb kind 2 (λ e. omega arith),
+        ne-eqb kind 3 (λ e. omega arith),
+        ne-eqb kind 4 (λ e. omega arith),
+      )
 
   pub good-zero : true ≡ cond (known 0) (bodyGood 0 len) true
   unfolding known

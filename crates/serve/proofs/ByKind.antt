@@ -1,18 +1,16 @@
 -- What serving a request of each kind comes to. The kind is put into the definition's cases, which then compute.
 use Prim.Native.Nat.{ℕ, _+_, _≤_}
-use mathlib.Core.Path.{_≡_, refl, sym, _∙_, ap}
-use mathlib.Core.Bool.{Bool, true, false, cond, true≢false, _&&_, _||_}
+use mathlib.Core.Path.{_≡_, refl, _∙_}
+use mathlib.Core.Bool.{Bool, true, false, cond, true≢false}
 use mathlib.Core.List.{List}
-use mathlib.Core.Option.{some, none}
 use native.Mathlib.Omega.{arith}
-use borrow.Author.Tests.{le-leb, lt-leb, leb-true, eqb-true, eqb-false, eq-eqb}
+use borrow.Author.Tests.{le-leb, lt-leb, leb-true, eqb-true, eqb-false}
 use lib.Dec.{leb, eqb}
 use lib.ListN.{length}
-use Rattle.table.specs.Limits.{entryHead, entryLimit, valueLimit}
 use Rattle.table.specs.Entry.{entryOf, entryForm}
 use Rattle.table.proofs.Tests.{and-parts}
 use Rattle.ldc.specs.Store.{Store}
-use Rattle.ldc.specs.Request.{Served, known, bodyGood, keyIn, highIn, valueIn, only}
+use Rattle.ldc.specs.Request.{known, bodyGood, keyIn, highIn, valueIn, only}
 use Rattle.ldc.specs.Memtable.{servePut}
 use Rattle.ldc.specs.Place.{serveFlush}
 use Rattle.ldc.specs.Read.{serveLookUp, serveScan, serveReport}

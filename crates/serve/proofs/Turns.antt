@@ -1,7 +1,6 @@
 -- What serving leaves, from its three parts, with a body and without; and the bodies of the replies to flush and tidy.
 use Prim.Native.Nat.{ℕ, _+_}
-use mathlib.Core.Path.{_≡_, refl, sym, _∙_, ap}
-use mathlib.Core.Bool.{cond}
+use mathlib.Core.Path.{_≡_, sym, _∙_, ap}
 use native.Mathlib.Omega.{arith}
 use mathlib.Core.List.{List, [], _∷_, _++_, append-nil}
 use borrow.Author.Tests.{eq-eqb, ne-eqb}
@@ -23,7 +22,7 @@ use Rattle.read.specs.Reply.{replyHead, numbers}
 use Rattle.read.proofs.Written.{reply-written}
 use Rattle.compact.specs.Tidied.{Does}
 use Rattle.compact.specs.declared.Tidied.{Tidied}
-use Rattle.serve.specs.Turn.{Turned, turn, turned}
+use Rattle.serve.specs.Turn.{turn, turned}
 
 pub turn-same : {m m′ : Lent} {a a′ : List ℕ} {w w′ : ℕ} → m ≡ m′ → a ≡ a′ → w ≡ w′ → turn m a w ≡ turn m′ a′ w′
 turn-same {m′ = m′} {a = a} {a′ = a′} {w = w} em ea ew =

@@ -8,7 +8,7 @@ use Rattle.table.specs.Limits.{tableHead}
 use Rattle.table.specs.Entry.{entryOf}
 use Rattle.table.specs.Table.{entries, entriesAt, tableBytes, appended}
 use Rattle.table.proofs.Position.{position-first}
-use Rattle.memtable.specs.Put.{below, appends}
+use Rattle.spot.specs.Appends.{below, appends}
 use Rattle.memtable.proofs.Split.{next}
 use Rattle.memtable.proofs.Build.{next-is, few-below, few-next, built, room-first, room-second, room-third, room-appends}
 use Rattle.memtable.proofs.build_with.Statement.{statement}

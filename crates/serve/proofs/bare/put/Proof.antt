@@ -1,7 +1,7 @@
 -- `put` meets its contract: key and value are those of the body, and the reply has none.
 use Prim.Native.Nat.{ℕ, _-_}
-use mathlib.Core.Path.{_≡_, refl, sym, _∙_, ap}
-use mathlib.Core.List.{List, []}
+use mathlib.Core.Path.{_≡_, _∙_, ap}
+use mathlib.Core.List.{[]}
 use lib.ListN.{length, take, drop}
 use lib.Seq.{sets}
 use Rattle.table.specs.Entry.{entryOf}
@@ -48,10 +48,13 @@ returns c =
     let a = k .before .before .before .before .args in
     let made : putIn (entryOf (a .kind) (k .key-at .result .value) (take (length (a .body .now) - 8) (drop 8 (a .body .now)))) (a .memory .now)
     ≡ putIn (entryOf (a .kind) (keyIn (a .body .now)) (valueIn (a .body .now))) (a .memory .now) =
-    rw (k .key-at .ensures, value-part (a .body .now)) in
-    (p .put .ensures .1 ∙ ap (λ v. v .bytes) made,
-    (r .answer-bare .ensures .0 ∙ ap (λ (n : ℕ). sets (a .answer .now) (a .at) (replyBytes (a .kind) n [])) (p .put .ensures .0 ∙ ap (λ v. v .result) made),
-    r .answer-bare .ensures .1 ∙ length-reply _ _ []))
+    rw (k .key-at .ensures, value-part (a .body .now)) in (
+      p .put .ensures .1 ∙ ap (λ v. v .bytes) made,
+      (
+        r .answer-bare .ensures .0 ∙ ap (λ (n : ℕ). sets (a .answer .now) (a .at) (replyBytes (a .kind) n [])) (p .put .ensures .0 ∙ ap (λ v. v .result) made),
+        r .answer-bare .ensures .1 ∙ length-reply _ _ [],
+      ),
+    )
 
 pub put-spec : {M : Type 1} → statement M
 put-spec =

@@ -1,5 +1,4 @@
 -- `is_good` meets its contract, kind by kind.
-use mathlib.Core.Path.{_≡_, sym, _∙_, ap}
 use native.Mathlib.Omega.{arith}
 use borrow.Author.Needs.{needs}
 use Rattle.serve.proofs.Bodies.{good-1, good-key, good-4, good-none, good-zero, good-above}

@@ -1,6 +1,6 @@
 -- `serve` meets its contract: kind by kind, what was called leaves what the definition serves. Where only the answer or the memory table
 -- changed, kept memory is what is lent of the store that it shows.
-use Prim.Native.Nat.{ℕ, _≤_}
+use Prim.Native.Nat.{ℕ}
 use mathlib.Core.Path.{_≡_, refl, sym, _∙_, ap}
 use mathlib.Core.Bool.{true, false}
 use mathlib.Core.Logic.{⊎-elim}

@@ -1,6 +1,6 @@
 -- `step_reply` meets its contract: six bytes, then two numbers.
 use Prim.Native.Nat.{ℕ, _+_}
-use mathlib.Core.Path.{_≡_, refl, _∙_, ap}
+use mathlib.Core.Path.{refl, _∙_, ap}
 use mathlib.Core.List.{List, [], _∷_}
 use borrow.Author.Needs.{needs}
 use lib.Seq.{sets}
@@ -31,9 +31,11 @@ returns : tie.Need-returns
 returns c =
     let r = c .before .before in
     let h = r .before .before .before .before .before in
-    let a = h .before .before .before .args in
-    (r .put-numbers .ensures ∙ ap (λ (x : List ℕ). sets x (a .at + 6) (numbers (a .step ∷ a .level ∷ []))) (h .head .ensures)
-    ∙ step-written (a .answer .now) (a .at) (a .step) (a .level), refl)
+    let a = h .before .before .before .args in (
+      r .put-numbers .ensures ∙ ap (λ (x : List ℕ). sets x (a .at + 6) (numbers (a .step ∷ a .level ∷ []))) (h .head .ensures)
+          ∙ step-written (a .answer .now) (a .at) (a .step) (a .level),
+      refl,
+    )
 
 pub step-reply-spec : {M : Type 1} → statement M
 step-reply-spec =

@@ -1,0 +1,3 @@
+-- What the contracts of `examples` cite.
+--   Examples   the examples of docs/FORMATS.md
+pub mod Examples

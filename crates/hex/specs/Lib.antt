@@ -1,0 +1,3 @@
+-- What the contracts of `hex` cite.
+--   Hex        bytes as text
+pub mod Hex

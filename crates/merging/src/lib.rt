@@ -1,0 +1,97 @@
+// The entries that come out of a merge, one after the other by rising key: where the next one stands.
+ghost use mathlib.Core.Path.{_≡_};
+ghost use Prim.Native.Nat.{suc, _+_, _*_, _≤_};
+ghost use lib.ListN.{length};
+ghost use Rattle.table.specs.Limits.{placeSize, entryHead};
+ghost use Rattle.table.specs.Entry.{Entry, keyAt};
+ghost use Rattle.table.specs.Table.{placeAt};
+ghost use Rattle.ldc.specs.Tidy.{dropsMark};
+ghost use Rattle.read.specs.Shown.{Tabled, Legible};
+ghost use Rattle.read.specs.Hit.{hitEntry, SeatedHit};
+ghost use Rattle.merger.specs.Merge.{comesOut, mergedIn, fromKey, Leads};
+use key::Key;
+use least::Least;
+use read::hit::Hit;
+use table::limits;
+
+// The level whose merges drop delete marks.
+const LAST_LEVEL: usize = 3;
+
+// Does a merge on this level drop a delete mark?
+fn drops_mark(n: usize) -> bool
+    ensures { λ r. ⌜ ((mark : Entry) → r ≡ dropsMark n mark) ⌝ }
+{
+    n == LAST_LEVEL
+}
+
+// Does what was found come out of a merge on this level?
+fn comes_out(area: &[u8], n: usize, hit: Hit) -> bool
+    requires { ⌜ SeatedHit (now area) hit ⌝ }
+    ensures { λ r. ⌜ r ≡ comesOut n (hitEntry (now (area .entry)) hit) ⌝ }
+{
+    match hit {
+        Hit::At(q, at) => (block::kind(area, q, at) != limits::DELETE_MARK) | !drops_mark(n),
+        Hit::Nothing => false,
+    }
+}
+
+// The first entry from a key on.
+pub fn first_from(area: &[u8], cards: &[[u64; 26]], n: usize, p: usize, from: Key) -> Hit
+    requires { ⌜ Legible (now area) (now cards) × Tabled (now area) p ⌝ }
+    ensures { λ r. ⌜
+        Leads (now (area .entry)) (mergedIn (now (area .entry)) (now (cards .entry)) n p) (fromKey (from .value) (mergedIn (now (area .entry)) (now (cards .entry)) n p)) r
+        ⌝ }
+{
+    let mut k = from.value;
+    loop {
+        let point = Key { value: k };
+        let Least::At(key) = least::in_sources(area, cards, p, point) else {
+            return Hit::Nothing;
+        };
+        let hit = hit::in_sources(area, cards, p, key);
+        if comes_out(area, n, hit) {
+            return hit;
+        }
+        let found = key.value;
+        if found == Key::GREATEST.value {
+            return Hit::Nothing;
+        }
+        k = found + 1;
+    }
+}
+
+// The key of the entry at a position of a place.
+fn key_in(area: &[u8], q: usize, at: usize) -> Key
+    requires { ⌜ (q * placeSize + placeSize ≤ length (now area)) × (at + entryHead ≤ placeSize) ⌝ }
+    ensures { λ r. ⌜ r .value ≡ keyAt (placeAt (q * placeSize) (now (area .entry))) at ⌝ }
+{
+    let start = q * limits::PLACE_SIZE;
+    let end = start + limits::PLACE_SIZE;
+    entry::key_at(&area[start..end], at)
+}
+
+// The first entry behind the one at a position of a place.
+pub fn first_behind(
+    area: &[u8],
+    cards: &[[u64; 26]],
+    n: usize,
+    p: usize,
+    q: usize,
+    at: usize,
+) -> Hit
+    requires { ⌜
+        Legible (now area) (now cards)
+        × (Tabled (now area) p × ((q * placeSize + placeSize ≤ length (now area)) × (at + entryHead ≤ placeSize)))
+        ⌝ }
+    ensures { λ r. ⌜
+        Leads (now (area .entry)) (mergedIn (now (area .entry)) (now (cards .entry)) n p) (fromKey (suc (keyAt (placeAt (q * placeSize) (now (area .entry))) at)) (mergedIn (now (area .entry)) (now (cards .entry)) n p)) r
+        ⌝ }
+{
+    let key = key_in(area, q, at);
+    let last = key.value;
+    if last == Key::GREATEST.value {
+        return Hit::Nothing;
+    }
+    let after = last + 1;
+    first_from(area, cards, n, p, Key { value: after })
+}

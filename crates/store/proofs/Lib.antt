@@ -1,5 +1,0 @@
--- The laws of `store`.
---   Ahead   a list of requests, served one at a time
---   Runs    a run by its ways out
-pub mod Ahead
-pub mod Runs
