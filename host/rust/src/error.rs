@@ -15,7 +15,7 @@ pub enum Rule {
 }
 
 impl Rule {
-    const ALL: [Rule; 7] = [Rule::A, Rule::B, Rule::C, Rule::D, Rule::E, Rule::F, Rule::G];
+    pub const ALL: [Rule; 7] = [Rule::A, Rule::B, Rule::C, Rule::D, Rule::E, Rule::F, Rule::G];
 
     pub(crate) fn of_letter(letter: u64) -> Rule {
         let found = Rule::ALL.into_iter().find(|rule| rule.letter() as u64 == letter);
@@ -24,6 +24,32 @@ impl Rule {
 
     pub fn letter(self) -> char {
         char::from(b'A' + self as u8)
+    }
+
+    /// The whole rule, as the order says it.
+    pub fn explanation(self) -> &'static str {
+        match self {
+            Rule::A => "The threshold is 1 to 8, and the cursor is below the number of places.",
+            Rule::B => {
+                "Each place is free or frozen and in no level list, or live and in one list once. The items of lists name \
+                 places, and only the cards of live places hold links."
+            }
+            Rule::C => {
+                "Every live or frozen place holds a table: its length in use, kind 32, the count of entries, zero, then 1 \
+                 to 16 entries with keys strictly rising, and zeros to the end of the place."
+            }
+            Rule::D => "The memory table is a table with 0 to 16 entries, keys strictly rising, and zeros behind them.",
+            Rule::E => {
+                "Links hang only on tables of levels 1 to 3, at most as many as the threshold on one. A link's low is not \
+                 above its high; it names a frozen place and holds at least one of that place's entries. Links that name \
+                 one place share no key and hang on one level."
+            }
+            Rule::F => "A place is frozen exactly if a link names it.",
+            Rule::G => {
+                "On levels 1 to 3 each table's span (its own keys and its links' ranges) ends below the start of the next \
+                 one, and the parts of the book that are not in use are zero."
+            }
+        }
     }
 
     fn words(self) -> &'static str {
@@ -111,7 +137,8 @@ pub enum Refusal {
 }
 
 impl Refusal {
-    pub(crate) fn of(result: u16) -> Option<Refusal> {
+    /// The refusal with this number.
+    pub fn of(result: u16) -> Option<Refusal> {
         use Refusal::*;
         let all = [UnknownKind, WrongBody, MemoryFull, WrongRange, NoPlace];
         all.into_iter().find(|refusal| refusal.number() == result)

@@ -36,13 +36,16 @@
 //! assert!(error.to_string().starts_with("1: "));
 //! ```
 
+mod bytes;
 mod error;
 mod key;
 mod list;
 mod memory;
 mod range;
 mod reply;
+mod request;
 mod store;
+mod view;
 
 pub use error::{Error, ListError, Refusal, Refused, Rule};
 pub use key::Key;
@@ -50,7 +53,9 @@ pub use list::List;
 pub use memory::{Memory, Pieces, Row};
 pub use range::Range;
 pub use reply::{Page, Reply, Report, Step, Stepped};
+pub use request::Request;
 pub use store::Store;
+pub use view::{Entry, Link, Table, View};
 
 /// The longest value.
 pub const VALUE_BYTES: usize = 48;

@@ -1,6 +1,6 @@
 //! Building request lists that are never broken.
 
-use crate::{Key, ListError, LIST_BYTES, VALUE_BYTES};
+use crate::{Key, ListError, Request, LIST_BYTES, VALUE_BYTES};
 
 /// A list of requests. What is in it can always be split, and no request is refused for its kind or its length.
 ///
@@ -44,33 +44,34 @@ impl List {
         self.replies
     }
 
-    /// Adds a request unless the list would become too long; then it stays as it was.
-    fn add(&mut self, kind: u16, body: &[&[u8]], reply: usize) -> Result<&mut List, ListError> {
-        let length = 4 + body.iter().map(|part| part.len()).sum::<usize>();
+    /// Adds a request unless its value or the list would be too long; then the list stays as it was.
+    pub fn add(&mut self, request: &Request) -> Result<&mut List, ListError> {
+        let body = request.body();
+        if body.len() > 8 + VALUE_BYTES && matches!(request, Request::Put(..)) {
+            return Err(ListError::ValueTooLong);
+        }
+        let length = 4 + body.len();
         if self.bytes.len() + length > LIST_BYTES {
             return Err(ListError::Full);
         }
         self.bytes.extend((length as u16).to_le_bytes());
-        self.bytes.extend(kind.to_le_bytes());
-        body.iter().for_each(|part| self.bytes.extend(*part));
+        self.bytes.extend(request.kind().to_le_bytes());
+        self.bytes.extend(body);
         self.requests += 1;
-        self.replies += reply;
+        self.replies += request.most_reply_bytes();
         Ok(self)
     }
 
     pub fn put(&mut self, key: impl Into<Key>, value: &[u8]) -> Result<&mut List, ListError> {
-        if value.len() > VALUE_BYTES {
-            return Err(ListError::ValueTooLong);
-        }
-        self.add(1, &[&key.into().0.to_le_bytes(), value], 6)
+        self.add(&Request::Put(key.into(), value.to_vec()))
     }
 
     pub fn delete(&mut self, key: impl Into<Key>) -> Result<&mut List, ListError> {
-        self.add(2, &[&key.into().0.to_le_bytes()], 6)
+        self.add(&Request::Delete(key.into()))
     }
 
     pub fn look_up(&mut self, key: impl Into<Key>) -> Result<&mut List, ListError> {
-        self.add(3, &[&key.into().0.to_le_bytes()], 6 + VALUE_BYTES)
+        self.add(&Request::LookUp(key.into()))
     }
 
     /// The first values from low to high, both included.
@@ -79,19 +80,18 @@ impl List {
         low: impl Into<Key>,
         high: impl Into<Key>,
     ) -> Result<&mut List, ListError> {
-        let (low, high) = (low.into().0.to_le_bytes(), high.into().0.to_le_bytes());
-        self.add(4, &[&low, &high], 10 + 16 * (12 + VALUE_BYTES))
+        self.add(&Request::Scan(low.into(), high.into()))
     }
 
     pub fn flush(&mut self) -> Result<&mut List, ListError> {
-        self.add(5, &[], 6)
+        self.add(&Request::Flush)
     }
 
     pub fn tidy(&mut self) -> Result<&mut List, ListError> {
-        self.add(6, &[], 10)
+        self.add(&Request::Tidy)
     }
 
     pub fn report(&mut self) -> Result<&mut List, ListError> {
-        self.add(7, &[], 22)
+        self.add(&Request::Report)
     }
 }

@@ -1,8 +1,18 @@
 //! The memory that a store lives in, owned or borrowed.
 
+use crate::bytes::{pair, word};
+use crate::Refused;
 use zilgwern_sys::{Head, Table};
 
 pub use zilgwern_sys::Row;
+
+pub(crate) const LEVELS: usize = 4;
+pub(crate) const TABLE_BYTES: usize = size_of::<Table>();
+const ROW_BYTES: usize = size_of::<Row>();
+const HEAD_BYTES: usize = size_of::<Head>();
+
+/// Bytes of a place, its card and its items in the lists.
+const BYTES_A_PLACE: usize = TABLE_BYTES + ROW_BYTES + 2 * LEVELS;
 
 /// The five pieces of a store's memory, borrowed. Sizes and contents may be any: what is wrong is refused.
 pub struct Pieces<'a> {
@@ -53,6 +63,50 @@ impl Memory {
         }
     }
 
+    /// The plain bytes of what is lent, piece after piece: area, cards, lists, head, memory table; numbers little-endian.
+    ///
+    /// ```
+    /// use zilgwern::{Memory, Refused, Store};
+    ///
+    /// let mut store = Store::owned(16, 4)?;
+    /// store.put(7, b"kept")?;
+    /// let bytes = store.memory().to_bytes();
+    /// assert_eq!(bytes.len(), 16 * (1024 + 208 + 8) + 80 + 1024);
+    /// let mut again = Store::open_owned(Memory::from_bytes(&bytes)?)?;
+    /// assert_eq!(again.look_up(7)?.as_deref(), Some(&b"kept"[..]));
+    /// assert_eq!(Memory::from_bytes(&bytes[1..]), Err(Refused::Sizes));
+    /// # Ok::<(), zilgwern::Error>(())
+    /// ```
+    pub fn to_bytes(&self) -> Vec<u8> {
+        let mut bytes = self.area.clone();
+        bytes.extend(self.cards.iter().flatten().flat_map(|word| word.to_le_bytes()));
+        bytes.extend(self.lists.iter().flat_map(|item| item.to_le_bytes()));
+        bytes.extend(self.head.iter().flat_map(|word| word.to_le_bytes()));
+        bytes.extend(self.memory);
+        bytes
+    }
+
+    /// The pieces from such bytes, sound or not; refused where no number of places has so many bytes.
+    pub fn from_bytes(bytes: &[u8]) -> Result<Memory, Refused> {
+        let of_places = bytes.len().checked_sub(HEAD_BYTES + TABLE_BYTES).ok_or(Refused::Sizes)?;
+        if !of_places.is_multiple_of(BYTES_A_PLACE) {
+            return Err(Refused::Sizes);
+        }
+        let places = of_places / BYTES_A_PLACE;
+        let (area, rest) = bytes.split_at(TABLE_BYTES * places);
+        let (cards, rest) = rest.split_at(ROW_BYTES * places);
+        let (lists, rest) = rest.split_at(2 * LEVELS * places);
+        let (head, memory) = rest.split_at(HEAD_BYTES);
+        let row = |bytes: &[u8]| std::array::from_fn(|at| word(bytes, 8 * at));
+        Ok(Memory {
+            area: area.to_vec(),
+            cards: cards.chunks_exact(ROW_BYTES).map(row).collect(),
+            lists: lists.chunks_exact(2).map(|item| pair(item, 0)).collect(),
+            head: std::array::from_fn(|at| word(head, 8 * at)),
+            memory: memory.try_into().expect("a table's bytes"),
+        })
+    }
+
     pub fn lend(&mut self) -> Pieces<'_> {
         Pieces {
             area: &mut self.area,
@@ -83,6 +137,19 @@ pub(crate) enum Held<'a> {
 }
 
 impl Held<'_> {
+    pub(crate) fn copy(&self) -> Memory {
+        match self {
+            Held::Owned(memory) => Memory::clone(memory),
+            Held::Borrowed(pieces) => Memory {
+                area: pieces.area.to_vec(),
+                cards: pieces.cards.to_vec(),
+                lists: pieces.lists.to_vec(),
+                head: *pieces.head,
+                memory: *pieces.memory,
+            },
+        }
+    }
+
     /// Pointers to distinct pieces, good while this is borrowed.
     pub(crate) fn raw(&mut self) -> zilgwern_sys::Pieces {
         match self {

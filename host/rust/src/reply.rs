@@ -1,6 +1,7 @@
 //! Replies as types.
 
-use crate::{Key, Refusal};
+use crate::bytes::{pair, take_whole, word};
+use crate::{Key, Refusal, VALUE_BYTES};
 
 /// A reply to one request.
 #[derive(Clone, PartialEq, Eq, Debug)]
@@ -56,55 +57,68 @@ pub struct Report {
     pub memory: u16,
 }
 
-fn pair(bytes: &[u8], at: usize) -> u16 {
-    u16::from_le_bytes([bytes[at], bytes[at + 1]])
-}
-
 impl Reply {
-    /// Takes the first reply from the answer bytes of a run. The library's replies are whole, so nothing is refused here.
-    pub(crate) fn take(answers: &mut &[u8]) -> Reply {
-        let (whole, rest) = answers.split_at(usize::from(pair(answers, 0)));
+    /// Takes the first reply from answer bytes, with the kind of its request; none where these are no answers of the store.
+    ///
+    /// ```
+    /// use zilgwern::Reply;
+    ///
+    /// let mut answers = &[6, 0, 1, 0, 0, 0, 7, 0, 3, 0, 0, 0, 0x41][..];
+    /// assert_eq!(Reply::take(&mut answers), Some((1, Reply::Done)));
+    /// assert_eq!(Reply::take(&mut answers), Some((3, Reply::Value(b"A".to_vec()))));
+    /// assert_eq!(Reply::take(&mut answers), None);
+    /// ```
+    pub fn take(answers: &mut &[u8]) -> Option<(u16, Reply)> {
+        let mut rest = *answers;
+        let whole = take_whole(&mut rest, 6)?;
+        let kind = pair(whole, 2);
+        let reply = Reply::of(kind, pair(whole, 4), &whole[6..])?;
         *answers = rest;
-        let (kind, result, body) = (pair(whole, 2), pair(whole, 4), &whole[6..]);
-        match (result, kind) {
-            (0, 3) => Reply::Value(body.to_vec()),
-            (0, 4) => Reply::Page(Page::of(body)),
-            (0, 6) => Reply::Stepped(Stepped::of(body)),
-            (0, 7) => Reply::Report(Report::of(body)),
-            (0, _) => Reply::Done,
-            (64, _) => Reply::NoValue,
-            (65, _) => Reply::NothingToDo,
-            _ => Reply::Refused(Refusal::of(result).expect("a result that the order names")),
+        Some((kind, reply))
+    }
+
+    fn of(kind: u16, result: u16, body: &[u8]) -> Option<Reply> {
+        match (result, kind, body.len()) {
+            (0, 3, 0..=VALUE_BYTES) => Some(Reply::Value(body.to_vec())),
+            (0, 4, 4..) => Page::of(body).map(Reply::Page),
+            (0, 6, 4) => Stepped::of(body).map(Reply::Stepped),
+            (0, 7, 16) => Some(Reply::Report(Report::of(body))),
+            (0, 1 | 2 | 5, 0) => Some(Reply::Done),
+            (64, 3, 0) => Some(Reply::NoValue),
+            (65, 5 | 6, 0) => Some(Reply::NothingToDo),
+            (_, _, 0) => Refusal::of(result).map(Reply::Refused),
+            _ => None,
         }
     }
 }
 
 impl Page {
-    fn of(body: &[u8]) -> Page {
+    fn of(body: &[u8]) -> Option<Page> {
+        let (count, more) = (pair(body, 0), pair(body, 2));
         let mut rest = &body[4..];
         let mut values = Vec::new();
         while !rest.is_empty() {
-            let (entry, others) = rest.split_at(usize::from(pair(rest, 0)));
-            let key = entry[4..12].try_into().expect("eight bytes");
-            values.push((Key(u64::from_le_bytes(key)), entry[12..].to_vec()));
-            rest = others;
+            let entry = take_whole(&mut rest, 12).filter(|entry| pair(entry, 2) == 1)?;
+            values.push((Key(word(entry, 4)), entry[12..].to_vec()));
         }
-        Page { values, more: pair(body, 2) == 1 }
+        (more < 2 && values.len() == usize::from(count)).then_some(Page { values, more: more == 1 })
     }
 }
 
 impl Stepped {
-    fn of(body: &[u8]) -> Stepped {
+    fn of(body: &[u8]) -> Option<Stepped> {
         let step = match pair(body, 0) {
             1 => Step::Moved,
             2 => Step::Linked,
-            _ => Step::Merged,
+            3 => Step::Merged,
+            _ => return None,
         };
-        Stepped { step, level: pair(body, 2) }
+        Some(Stepped { step, level: pair(body, 2) })
     }
 }
 
 impl Report {
+    /// From eight counts.
     fn of(body: &[u8]) -> Report {
         let count = |number: usize| pair(body, 2 * number);
         Report {

@@ -1,6 +1,8 @@
 //! A store over lent memory, and the calls of the library.
 
+use crate::bytes::take_whole;
 use crate::memory::Held;
+use crate::view::View;
 use crate::{Error, Key, List, Memory, Page, Pieces, Range, Refused, Reply, Report, Stepped};
 use crate::{ListError, ANSWER_ROOM};
 
@@ -65,6 +67,16 @@ impl<'a> Store<'a> {
         Refused::of(number, letter)
     }
 
+    /// The memory that the store lives in, as it is now; to keep a store, keep this.
+    pub fn memory(&self) -> Memory {
+        self.held.copy()
+    }
+
+    /// What stands where: levels, tables, links and frozen places.
+    pub fn view(&self) -> View {
+        View::of(&self.held.copy())
+    }
+
     /// Runs bytes as a list, with answers in a buffer: the requests served and the bytes written. The run stops before a
     /// request when fewer than 1,024 bytes of the buffer are left.
     pub fn run_bytes(
@@ -89,8 +101,10 @@ impl<'a> Store<'a> {
             let (served, written) = self.run_bytes(rest, &mut answers)?;
             let mut written = &answers[..written];
             for _ in 0..served {
-                replies.push(Reply::take(&mut written));
-                rest = &rest[usize::from(u16::from_le_bytes([rest[0], rest[1]]))..];
+                take_whole(&mut rest, 4).expect("no more are served than there are");
+                let (_, reply) =
+                    Reply::take(&mut written).expect("the library's replies are whole");
+                replies.push(reply);
             }
             if rest.is_empty() {
                 return Ok(replies);

@@ -1,18 +1,10 @@
 //! The wrapper beside a map, and its errors and limits.
 
+mod common;
+
+use common::Random;
 use std::collections::BTreeMap;
 use zilgwern::*;
-
-/// A small seeded generator of numbers.
-struct Random(u64);
-
-impl Random {
-    fn below(&mut self, bound: u64) -> u64 {
-        self.0 =
-            self.0.wrapping_mul(6_364_136_223_846_793_005).wrapping_add(1_442_695_040_888_963_407);
-        (self.0 >> 33) % bound
-    }
-}
 
 /// Makes room for a new key: flushes, and tidies while there is something to do. Gives the number of steps.
 fn make_room(store: &mut Store) -> usize {

@@ -1,0 +1,133 @@
+//! What stands where in a store, read from its memory: for pictures and for those who want to see how it works.
+
+use crate::bytes::{pair, take_whole, word};
+use crate::memory::{LEVELS, TABLE_BYTES};
+use crate::{Key, Memory};
+
+/// An entry of a table; a delete mark has no value.
+#[derive(Clone, PartialEq, Eq, Debug)]
+pub struct Entry {
+    pub key: Key,
+    pub value: Option<Vec<u8>>,
+}
+
+/// A link: a frozen place's entries with keys from low to high, both included, belong to the table that has the link.
+#[derive(Clone, Copy, PartialEq, Eq, Debug)]
+pub struct Link {
+    pub place: usize,
+    pub low: Key,
+    pub high: Key,
+}
+
+impl Link {
+    pub fn holds(&self, key: Key) -> bool {
+        (self.low..=self.high).contains(&key)
+    }
+}
+
+/// A live or frozen table.
+#[derive(Clone, PartialEq, Eq, Debug)]
+pub struct Table {
+    pub place: usize,
+    /// One to sixteen, keys rising.
+    pub entries: Vec<Entry>,
+    /// Oldest first; a frozen table has none.
+    pub links: Vec<Link>,
+}
+
+impl Table {
+    /// From the least to the greatest of the table's own keys and its links' range ends.
+    pub fn span(&self) -> (Key, Key) {
+        let own = self.entries.iter().map(|entry| entry.key);
+        let ends = own.chain(self.links.iter().flat_map(|link| [link.low, link.high]));
+        let (low, high) = (ends.clone().min(), ends.max());
+        (low.unwrap_or(Key::LEAST), high.unwrap_or(Key::GREATEST))
+    }
+}
+
+/// A store, spread out.
+///
+/// ```
+/// use zilgwern::{Key, Store};
+///
+/// let mut store = Store::owned(16, 4)?;
+/// store.put(5, b"A")?;
+/// store.put(9, b"B")?;
+/// store.flush()?;
+/// store.delete(9)?;
+/// let view = store.view();
+/// assert_eq!(view.levels[0][0].span(), (Key(5), Key(9)));
+/// assert_eq!((view.places, view.threshold, view.cursor), (16, 4, 1));
+/// assert_eq!(view.memory[0].value, None);
+/// # Ok::<(), zilgwern::Error>(())
+/// ```
+#[derive(Clone, PartialEq, Eq, Debug)]
+pub struct View {
+    pub places: usize,
+    pub threshold: u64,
+    pub cursor: usize,
+    /// Of levels 1 and 2: the key behind which a tidy goes on choosing.
+    pub marks: [Option<Key>; 2],
+    /// Level 0 oldest first, the others by key.
+    pub levels: [Vec<Table>; LEVELS],
+    /// By place.
+    pub frozen: Vec<Table>,
+    pub memory: Vec<Entry>,
+}
+
+impl View {
+    /// Reads a sound store's memory.
+    pub(crate) fn of(memory: &Memory) -> View {
+        let places = memory.cards.len();
+        let mark = |at: usize| (memory.head[at] == 1).then_some(Key(memory.head[at + 1]));
+        let level = |level: usize| {
+            let items = memory.lists[level * places..].iter().take(memory.head[6 + level] as usize);
+            items.map(|place| table(memory, usize::from(*place))).collect()
+        };
+        let frozen = (0..places).filter(|place| memory.cards[*place][0] == 2);
+        View {
+            places,
+            threshold: memory.head[0],
+            cursor: memory.head[1] as usize,
+            marks: [mark(2), mark(4)],
+            levels: std::array::from_fn(level),
+            frozen: frozen.map(|place| table(memory, place)).collect(),
+            memory: entries(&memory.memory),
+        }
+    }
+
+    /// The places that no table stands in.
+    pub fn free(&self) -> usize {
+        self.places - self.frozen.len() - self.levels.iter().map(Vec::len).sum::<usize>()
+    }
+
+    /// The level and the place of each table with a link to this place.
+    pub fn linked_from(&self, place: usize) -> Vec<(usize, usize)> {
+        let levels = self.levels.iter().enumerate();
+        let tables = levels.flat_map(|(level, tables)| tables.iter().map(move |on| (level, on)));
+        tables
+            .filter(|(_, on)| on.links.iter().any(|link| link.place == place))
+            .map(|(level, on)| (level, on.place))
+            .collect()
+    }
+}
+
+fn table(memory: &Memory, place: usize) -> Table {
+    let card = &memory.cards[place];
+    let link = |at: &[u64]| Link { place: at[0] as usize, low: Key(at[1]), high: Key(at[2]) };
+    Table {
+        place,
+        entries: entries(&memory.area[place * TABLE_BYTES..][..TABLE_BYTES]),
+        links: card[2..].chunks_exact(3).take(card[1] as usize).map(link).collect(),
+    }
+}
+
+fn entries(table: &[u8]) -> Vec<Entry> {
+    let mut rest = table.get(8..usize::from(pair(table, 0))).unwrap_or(&[]);
+    let next = || take_whole(&mut rest, 12);
+    let entry = |entry: &[u8]| Entry {
+        key: Key(word(entry, 4)),
+        value: (pair(entry, 2) == 1).then(|| entry[12..].to_vec()),
+    };
+    std::iter::from_fn(next).map(entry).collect()
+}

@@ -1,0 +1,182 @@
+//! Requests, replies and memory as bytes and back, and the view of a store beside its report.
+
+mod common;
+
+use common::Random;
+use zilgwern::*;
+
+fn some_request(random: &mut Random) -> Request {
+    let key = Key(random.below(1 << 31) << random.below(33));
+    match random.below(7) {
+        0 => Request::Put(key, vec![random.below(256) as u8; random.below(49) as usize]),
+        1 => Request::Delete(key),
+        2 => Request::LookUp(key),
+        3 => Request::Scan(key, Key::GREATEST),
+        4 => Request::Flush,
+        5 => Request::Tidy,
+        _ => Request::Report,
+    }
+}
+
+#[test]
+fn lists_are_read_back_as_they_were_built() {
+    let mut random = Random(2);
+    for length in 0..200 {
+        let requests: Vec<Request> = (0..length).map(|_| some_request(&mut random)).collect();
+        let mut list = List::new();
+        requests.iter().for_each(|request| assert!(list.add(request).is_ok()));
+        let read = Request::read_list(list.as_bytes()).unwrap();
+        assert_eq!(read, requests.into_iter().map(Ok).collect::<Vec<_>>());
+        assert_eq!(list.len(), length);
+    }
+}
+
+#[test]
+fn a_list_that_is_refused_a_request_stays_as_it_was() {
+    let mut list = List::new();
+    list.flush().unwrap();
+    let before = list.clone();
+    assert_eq!(list.put(1, &[0; 49]).err(), Some(ListError::ValueTooLong));
+    // So long that its length would not fit two bytes.
+    assert_eq!(list.put(1, &[0; 70_000]).err(), Some(ListError::ValueTooLong));
+    assert_eq!(list, before);
+    while list.report().is_ok() {}
+    assert_eq!(list.as_bytes().len(), LIST_BYTES);
+    let full = list.clone();
+    assert_eq!(list.tidy().err(), Some(ListError::Full));
+    assert_eq!(list, full);
+}
+
+/// What the store makes of a list, and of its bytes with one changed: the two agree on what is refused.
+#[test]
+fn lists_are_judged_as_the_store_judges_them() {
+    let mut random = Random(3);
+    let (mut broken, mut refused) = (0, 0);
+    for _ in 0..3000 {
+        let mut list = List::new();
+        (0..6).for_each(|_| assert!(list.add(&some_request(&mut random)).is_ok()));
+        let mut bytes = list.as_bytes().to_vec();
+        let at = random.below(bytes.len() as u64) as usize;
+        bytes[at] ^= 1 << random.below(8);
+        let mut answers = vec![0; 10_000];
+        let mut store = Store::owned(16, 4).unwrap();
+        match (Request::read_list(&bytes), store.run_bytes(&bytes, &mut answers)) {
+            (Err(refusal), ran) => {
+                assert_eq!(ran, Err(refusal));
+                broken += 1;
+            }
+            (Ok(requests), ran) => {
+                let (served, written) = ran.unwrap();
+                assert_eq!(served, requests.len());
+                let mut rest = &answers[..written];
+                for request in requests {
+                    let (_, reply) = Reply::take(&mut rest).unwrap();
+                    if let Err(refusal) = request {
+                        assert_eq!(reply, Reply::Refused(refusal));
+                        refused += 1;
+                    }
+                }
+                assert!(rest.is_empty());
+            }
+        }
+    }
+    assert!(broken > 100 && refused > 100, "{broken} {refused}");
+}
+
+#[test]
+fn bytes_that_are_no_answers_are_told_so() {
+    let mut store = Store::owned(16, 4).unwrap();
+    store.put(5, b"value").unwrap();
+    let mut list = List::new();
+    list.look_up(5).unwrap().scan(0, 9).unwrap().tidy().unwrap().report().unwrap().flush().unwrap();
+    let mut answers = vec![0; 10_000];
+    let (_, written) = store.run_bytes(list.as_bytes(), &mut answers).unwrap();
+    let mut random = Random(4);
+    let mut wrong = 0;
+    for _ in 0..20_000 {
+        let mut bytes = answers[..random.below(written as u64 + 1) as usize].to_vec();
+        for _ in 0..random.below(3) {
+            let at = random.below(bytes.len() as u64 + 1) as usize;
+            bytes.get_mut(at).into_iter().for_each(|byte| *byte ^= 1 << random.below(8));
+        }
+        let mut rest = &bytes[..];
+        // Whatever it is, it is taken or refused, and what is refused stays.
+        while let Some((_, _)) = Reply::take(&mut rest) {}
+        wrong += u32::from(!rest.is_empty());
+    }
+    assert!(wrong > 1000);
+    for bytes in [&[][..], &[6], &[6, 0, 1, 0, 0], &[5, 0, 1, 0, 0], &[0; 6], &[6, 0, 1, 0, 9, 0]] {
+        let mut rest = bytes;
+        assert_eq!((Reply::take(&mut rest), rest), (None, bytes));
+    }
+}
+
+#[test]
+fn memory_goes_into_bytes_and_comes_back() {
+    let mut random = Random(5);
+    for places in [0, 1, 15, 16, 40] {
+        let mut memory = Memory::zeroed(places);
+        memory.area.fill_with(|| random.below(256) as u8);
+        memory.cards.iter_mut().flatten().for_each(|word| *word = random.below(1 << 31) << 30);
+        memory.lists.fill_with(|| random.below(1 << 16) as u16);
+        memory.head.fill_with(|| random.below(1 << 31) << 33);
+        memory.memory.fill_with(|| random.below(256) as u8);
+        let bytes = memory.to_bytes();
+        assert_eq!(Memory::from_bytes(&bytes), Ok(memory));
+        assert_eq!(Memory::from_bytes(&bytes[1..]), Err(Refused::Sizes));
+        assert_eq!(Memory::from_bytes(&[&bytes[..], &[0]].concat()), Err(Refused::Sizes));
+    }
+    assert_eq!(Memory::from_bytes(&[]), Err(Refused::Sizes));
+}
+
+/// The value under a key by the order's reading rule, worked out from a view.
+fn read_in(view: &View, key: Key) -> Option<Vec<u8>> {
+    let frozen = |place| view.frozen.iter().find(|table| table.place == place).unwrap();
+    let mut sources: Vec<&[Entry]> = vec![&view.memory];
+    sources.extend(view.levels[0].iter().rev().map(|table| &table.entries[..]));
+    for table in view.levels[1..].iter().flatten() {
+        let links = table.links.iter().rev().filter(|link| link.holds(key));
+        sources.extend(links.map(|link| &frozen(link.place).entries[..]));
+        sources.push(&table.entries);
+    }
+    let deciding = sources.into_iter().flatten().find(|entry| entry.key == key);
+    deciding.and_then(|entry| entry.value.clone())
+}
+
+#[test]
+fn the_view_shows_what_the_store_reports_and_reads() {
+    let mut random = Random(6);
+    let mut memory = Memory::zeroed(96);
+    let mut store = Store::make(memory.lend(), 2).unwrap();
+    let mut links = 0;
+    for round in 0..1500 {
+        let key = random.below(300);
+        let done = match random.below(5) {
+            0 => store.delete(key),
+            _ => store.put(key, format!("{round}").as_bytes()),
+        };
+        if done.is_err() {
+            store.flush().unwrap();
+            // Some steps, so that links are left; all of them where places run short.
+            let most = if store.view().free() < 40 { usize::MAX } else { random.below(6) as usize };
+            let mut tidy = || store.tidy().expect("there is room for a merge");
+            std::iter::from_fn(&mut tidy).take(most).for_each(|_| {});
+        }
+        if round % 50 > 0 {
+            continue;
+        }
+        let (view, report) = (store.view(), store.report().unwrap());
+        let live: [u16; 4] = std::array::from_fn(|level| view.levels[level].len() as u16);
+        let hanging: usize = view.levels.iter().flatten().map(|table| table.links.len()).sum();
+        let frozen = view.frozen.len() as u16;
+        let (free, memory) = (view.free() as u16, view.memory.len() as u16);
+        let shown = Report { free, live, frozen, links: hanging as u16, memory };
+        assert_eq!(shown, report);
+        let linked: usize = view.frozen.iter().map(|it| view.linked_from(it.place).len()).sum();
+        assert_eq!(linked, hanging);
+        (0..300).for_each(|key| assert_eq!(read_in(&view, Key(key)), store.look_up(key).unwrap()));
+        links += hanging;
+    }
+    assert!(links > 50);
+    assert_eq!(store.memory().to_bytes(), memory.to_bytes());
+}

@@ -1,0 +1,102 @@
+//! Why a call did not do what it was asked for, and the exit status that says so.
+
+use std::fmt;
+use std::io::ErrorKind;
+use zilgwern::{Error, Refused};
+
+#[derive(Debug)]
+pub enum Failure {
+    /// A look-up found nothing. It has said so already.
+    NoValue,
+    /// The words are not understood.
+    Words(String),
+    /// The store refused, by number.
+    Refused(Error),
+    /// The same, for what came out of a file or a line of it.
+    RefusedIn(String, Error),
+    /// A file can't be read or written.
+    File(String),
+    /// Nobody reads the output any more, or it can't be written.
+    Output(std::io::Error),
+}
+
+impl Failure {
+    /// Words that do not fit a command.
+    pub fn usage(command: &str, words: &str) -> Failure {
+        Failure::Words(format!("{command}: {words}; see `surveyctl help {command}`"))
+    }
+
+    pub fn file(name: &str, error: impl fmt::Display) -> Failure {
+        Failure::File(format!("{name}: {error}"))
+    }
+
+    /// The same failure, with where it was met.
+    pub fn at(self, place: &str) -> Failure {
+        match self {
+            Failure::Words(words) => Failure::Words(format!("{place}: {words}")),
+            Failure::Refused(error) => Failure::RefusedIn(place.into(), error),
+            Failure::RefusedIn(inner, error) => {
+                Failure::RefusedIn(format!("{place}: {inner}"), error)
+            }
+            other => other,
+        }
+    }
+
+    /// As the help text lists them.
+    pub fn status(&self) -> u8 {
+        match self {
+            Failure::Output(error) if error.kind() == ErrorKind::BrokenPipe => 0,
+            Failure::NoValue => 1,
+            Failure::Words(_) => 2,
+            Failure::Refused(_) | Failure::RefusedIn(..) => 3,
+            Failure::File(_) | Failure::Output(_) => 4,
+        }
+    }
+}
+
+impl fmt::Display for Failure {
+    fn fmt(&self, out: &mut fmt::Formatter) -> fmt::Result {
+        match self {
+            Failure::NoValue => Ok(()),
+            Failure::Words(words) | Failure::File(words) => out.write_str(words),
+            Failure::Refused(error) => refusal(out, error),
+            Failure::RefusedIn(place, error) => {
+                write!(out, "{place}: ")?;
+                refusal(out, error)
+            }
+            Failure::Output(error) if error.kind() == ErrorKind::BrokenPipe => Ok(()),
+            Failure::Output(error) => write!(out, "the output can't be written: {error}"),
+        }
+    }
+}
+
+/// A refusal by its number; that of a damaged store by the letter and the text of the broken rule.
+fn refusal(out: &mut fmt::Formatter, error: &Error) -> fmt::Result {
+    write!(out, "refused, {error}")?;
+    match error {
+        Error::Refused(Refused::NotSound(rule)) => {
+            let (letter, text) = (rule.letter(), rule.explanation());
+            write!(out, "\n  Rule {letter} of a sound store: {text}")?;
+            write!(out, "\n  Nothing was changed. Bring back a copy that is sound.")
+        }
+        _ => Ok(()),
+    }
+}
+
+impl From<Error> for Failure {
+    fn from(error: Error) -> Failure {
+        Failure::Refused(error)
+    }
+}
+
+impl From<Refused> for Failure {
+    fn from(refused: Refused) -> Failure {
+        Failure::Refused(refused.into())
+    }
+}
+
+impl From<std::io::Error> for Failure {
+    fn from(error: std::io::Error) -> Failure {
+        Failure::Output(error)
+    }
+}

@@ -1,0 +1,95 @@
+//! Where keys stand in a picture: by their order among all keys that are there, each as wide as the next.
+
+use zilgwern::{Entry, Key, Link, Table, View};
+
+/// All keys of a store, rising.
+pub struct Scale {
+    keys: Vec<Key>,
+}
+
+impl Scale {
+    pub fn of(view: &View) -> Scale {
+        let tables = view.levels.iter().flatten().chain(&view.frozen);
+        let entries = tables.flat_map(|table| &table.entries).chain(&view.memory);
+        let mut keys: Vec<Key> = entries.map(|entry| entry.key).collect();
+        keys.sort();
+        keys.dedup();
+        Scale { keys }
+    }
+
+    /// Where a range of keys begins and ends, both from 0 to 1.
+    pub fn range(&self, low: Key, high: Key) -> (f64, f64) {
+        let all = self.keys.len().max(1) as f64;
+        let before = self.keys.partition_point(|key| *key < low) as f64;
+        let until = self.keys.partition_point(|key| *key <= high) as f64;
+        (before / all, until.max(before) / all)
+    }
+
+    /// The least and the greatest key, if there is any.
+    pub fn ends(&self) -> Option<(Key, Key)> {
+        Some((*self.keys.first()?, *self.keys.last()?))
+    }
+}
+
+/// The least and the greatest key of entries, if there are any.
+pub fn extent(entries: &[Entry]) -> Option<(Key, Key)> {
+    Some((entries.first()?.key, entries.last()?.key))
+}
+
+/// How many of a frozen table's entries a link holds.
+pub fn held(view: &View, link: &Link) -> usize {
+    let frozen = view.frozen.iter().find(|table| table.place == link.place);
+    frozen.map_or(0, |table| table.entries.iter().filter(|entry| link.holds(entry.key)).count())
+}
+
+/// Frozen tables whose links hang on a level.
+pub fn frozen_on(view: &View, level: usize) -> Vec<&Table> {
+    let hangs = |place: usize| {
+        view.levels[level].iter().any(|table| table.links.iter().any(|link| link.place == place))
+    };
+    view.frozen.iter().filter(|table| hangs(table.place)).collect()
+}
+
+/// What is known of each place: the level of a live table, frozen, or neither.
+#[derive(Clone, Copy, PartialEq, Eq, Debug)]
+pub enum State {
+    Free,
+    Live(usize),
+    Frozen,
+}
+
+pub fn states(view: &View) -> Vec<State> {
+    let mut states = vec![State::Free; view.places];
+    for (level, tables) in view.levels.iter().enumerate() {
+        tables.iter().for_each(|table| states[table.place] = State::Live(level));
+    }
+    view.frozen.iter().for_each(|table| states[table.place] = State::Frozen);
+    states
+}
+
+/// Live tables that a level may hold before a tidy takes one away; level 3 has no such limit.
+const CAPACITIES: [Option<usize>; 4] = [Some(2), Some(8), Some(32), None];
+
+/// How many tables a level has, and its capacity.
+pub fn fill(view: &View, level: usize) -> String {
+    let tables = counted(view.levels[level].len(), "table", "tables");
+    CAPACITIES[level].map_or(tables.clone(), |most| format!("{tables} (capacity {most})"))
+}
+
+/// One or several of a thing.
+pub fn counted(count: usize, one: &str, several: &str) -> String {
+    match count {
+        1 => format!("1 {one}"),
+        _ => format!("{count} {several}"),
+    }
+}
+
+/// The title line of both pictures.
+pub fn title(view: &View) -> String {
+    let live: usize = view.levels.iter().map(Vec::len).sum();
+    let links: usize = view.levels.iter().flatten().map(|table| table.links.len()).sum();
+    let (free, frozen) = (view.free(), view.frozen.len());
+    let places = format!("{} places: {free} free, {live} live, {frozen} frozen", view.places);
+    let links = counted(links, "link", "links");
+    format!("{places}; {links}; threshold {}; cursor {}", view.threshold, view.cursor)
+}

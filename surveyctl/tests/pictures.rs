@@ -1,0 +1,106 @@
+//! The pictures of a small store with every kind of thing in it.
+
+mod common;
+
+use common::Folder;
+
+/// Two tables on level 0, one on level 1 with a link to a frozen one, and one key in memory.
+fn small(name: &str) -> Folder {
+    let folder = Folder::new(name);
+    folder.done(&["--store", "s", "--places", "16", "--threshold", "1", "new"]);
+    let lines = "put 10 a\nput 40 b\nflush\nput 20 c\nput 30 d\nflush\nput 12 1.000 e\nflush\ntidy\nput 12 2.000 f\n\
+                 flush\ntidy\nput 50 g\n";
+    let came = folder.call_with(&["--store", "s", "script"], lines.as_bytes());
+    assert_eq!(came.status, 0, "{}", came.err);
+    folder
+}
+
+#[test]
+fn the_picture_in_text() {
+    let folder = small("text");
+    // Seven keys share the forty columns; a bar begins and ends with the columns that its keys touch.
+    let expected = "\
+16 places: 12 free, 3 live, 1 frozen; 1 link; threshold 1; cursor 4
+
+memory              1  ......................#######...........  50 to 50
+level 0: 2 tables (capacity 2), oldest first
+  place 2           1  ............................#######.....  12 1.000 to 12 1.000
+  place 3           1  ..................................######  12 2.000 to 12 2.000
+level 1: 1 table (capacity 8)
+  place 0           2  #######################.................  10 to 40; merge due
+    + of place 1    2  ========================================  first to last
+level 2: 0 tables (capacity 32)
+level 3: 0 tables
+frozen: 1
+  place 1           2  .....~~~~~~~~~~~~~......................  20 to 30; linked by place 0 of level 1
+places: . free, 0 to 3 live on that level, f frozen
+     0  1f00............
+";
+    assert_eq!(folder.done(&["--store", "s", "show", "--ascii"]), expected);
+    let shown = folder.done(&["--store", "s", "show"]);
+    assert_eq!(shown.lines().count(), expected.lines().count());
+    assert_eq!(shown.matches('█').count(), expected.matches('#').count());
+    assert_eq!(shown.matches('▒').count(), expected.matches('=').count());
+    assert_eq!(shown.matches('░').count(), expected.matches('~').count());
+    assert_eq!(folder.call_with(&["--store", "s", "prompt"], b"show\n").out, shown);
+    let whole = folder.done(&["--store", "s", "--whole-keys", "show"]);
+    assert!(whole.contains("13194139534312 to 13194139534312"));
+}
+
+/// The names of tags, with a stroke before those that close; tags that close themselves are left out.
+fn tags(svg: &str) -> Vec<&str> {
+    let inside = svg.split('<').skip(1).map(|part| part.split('>').next().expect("a tag"));
+    inside.filter(|tag| !tag.ends_with('/')).map(|tag| tag.split(' ').next().unwrap()).collect()
+}
+
+#[test]
+fn links_stand_newest_first_as_they_are_read() {
+    let folder = Folder::new("links");
+    let tables: String = (1..=5).map(|key| format!("put {key} v\nflush\n")).collect();
+    let came = folder.call_with(&[], format!("{tables}tidy all\nshow\n").as_bytes());
+    let links: Vec<&str> = came.out.lines().filter(|line| line.contains("└ of place")).collect();
+    assert_eq!(links.len(), 2);
+    assert!(links[0].contains("of place 2 ") && links[1].contains("of place 1 "), "{links:?}");
+    assert!(!came.out.contains("merge due"));
+}
+
+#[test]
+fn the_picture_as_an_svg() {
+    let folder = small("svg");
+    assert_eq!(folder.done(&["--store", "s", "show", "--svg", "p.svg"]), "");
+    let svg = String::from_utf8(folder.read("p.svg")).expect("text");
+    let mut open = Vec::new();
+    for tag in tags(&svg) {
+        match tag.strip_prefix('/') {
+            Some(name) => assert_eq!(open.pop(), Some(name)),
+            None => open.push(tag),
+        }
+    }
+    assert!(open.is_empty());
+    assert!(svg.starts_with("<svg xmlns=\"http://www.w3.org/2000/svg\" "));
+    for tip in [
+        "memory: 1, 50 to 50",
+        "place 2, level 0: 1 entry, 12 1.000 to 12 1.000",
+        "place 0, level 1: 2 entries, 10 to 40",
+        "place 1, frozen: 2 entries, 20 to 30",
+        "link of place 0 to place 1: 2 entries, 0 to last",
+        "place 1: frozen",
+        "place 15: free",
+    ] {
+        assert!(svg.contains(&format!("<title>{tip}</title>")), "{tip}");
+    }
+}
+
+#[test]
+fn a_new_store_and_a_full_one_can_be_drawn() {
+    let folder = Folder::new("ends");
+    for places in ["16", "4096"] {
+        let _ = std::fs::remove_file(folder.path("s"));
+        folder.done(&["--store", "s", "--places", places, "new"]);
+        assert!(folder.done(&["--store", "s", "show"]).starts_with(places));
+        folder.done(&["--store", "s", "show", "--svg", "p.svg"]);
+    }
+    let lines: String = (0..16).map(|key| format!("put {key} v\nflush\n")).collect();
+    let came = folder.call_with(&["--places", "16"], format!("{lines}show\n").as_bytes());
+    assert!(came.out.contains("16 places: 0 free, 16 live, 0 frozen"));
+}
