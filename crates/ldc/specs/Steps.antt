@@ -80,9 +80,9 @@ sameBytes [] (y ∷ ys) = false
 sameBytes (x ∷ xs) [] = false
 sameBytes (x ∷ xs) (y ∷ ys) = eqb x y && sameBytes xs ys
 
--- How many places have other bytes than before? (One that is there before or after only counts.)
+-- How many places have other bytes than before? (One that is there only before or only after counts.)
 abbrev pub placesChanged : (before after : List (List ℕ)) → ℕ
 placesChanged [] [] = 0
-placesChanged [] (b ∷ bs) = suc (placesChanged [] bs)
-placesChanged (a ∷ as′) [] = suc (placesChanged as′ [])
-placesChanged (a ∷ as′) (b ∷ bs) = cond (sameBytes a b) (placesChanged as′ bs) (suc (placesChanged as′ bs))
+placesChanged [] (y ∷ ys) = suc (placesChanged [] ys)
+placesChanged (x ∷ xs) [] = suc (placesChanged xs [])
+placesChanged (x ∷ xs) (y ∷ ys) = cond (sameBytes x y) (placesChanged xs ys) (suc (placesChanged xs ys))

@@ -39,25 +39,25 @@ changed-none [] = refl
 changed-none (p ∷ ps) = rw (same-self p, changed-none ps)
 
 -- One place written is one changed at most.
-changed-set : (as′ bs : List (List ℕ)) (p : ℕ) (x : List ℕ) → placesChanged as′ (set bs p x) ≤ suc (placesChanged as′ bs)
-changed-set as′ [] p x = omega arith
-changed-set [] (b ∷ bs) zero x = omega arith
-changed-set [] (b ∷ bs) (suc p) x = omega (arith, changed-set [] bs p x)
-changed-set (a ∷ as′) (b ∷ bs) zero x =
-    cases (sameBytes a x)
-    (λ q. cases (sameBytes a b) (λ r. rw (q, r) (omega arith)) (λ r. rw (q, r) (omega arith)))
-    (λ q. cases (sameBytes a b) (λ r. rw (q, r) (omega arith)) (λ r. rw (q, r) (omega arith)))
-changed-set (a ∷ as′) (b ∷ bs) (suc p) x =
-    let r = changed-set as′ bs p x in
-    cases (sameBytes a b) (λ q. rw q (omega arith)) (λ q. rw q (omega arith))
+changed-set : (xs ys : List (List ℕ)) (p : ℕ) (b : List ℕ) → placesChanged xs (set ys p b) ≤ suc (placesChanged xs ys)
+changed-set xs [] p b = omega arith
+changed-set [] (y ∷ ys) zero b = omega arith
+changed-set [] (y ∷ ys) (suc p) b = omega (arith, changed-set [] ys p b)
+changed-set (x ∷ xs) (y ∷ ys) zero b =
+    cases (sameBytes x b)
+    (λ q. cases (sameBytes x y) (λ r. rw (q, r) (omega arith)) (λ r. rw (q, r) (omega arith)))
+    (λ q. cases (sameBytes x y) (λ r. rw (q, r) (omega arith)) (λ r. rw (q, r) (omega arith)))
+changed-set (x ∷ xs) (y ∷ ys) (suc p) b =
+    let r = changed-set xs ys p b in
+    cases (sameBytes x y) (λ q. rw q (omega arith)) (λ q. rw q (omega arith))
 
-changed-written : (as′ : List (List ℕ)) (es : List Entry) (s : Store) → placesChanged as′ (written es s .places) ≤ suc (placesChanged as′ (s .places))
+changed-written : (xs : List (List ℕ)) (es : List Entry) (s : Store) → placesChanged xs (written es s .places) ≤ suc (placesChanged xs (s .places))
 unfolding written
-changed-written as′ es s = changed-set as′ (s .places) (placeTaken s) (tableBytes es)
+changed-written xs es s = changed-set xs (s .places) (placeTaken s) (tableBytes es)
 
-changed-all : (as′ : List (List ℕ)) (ts : List (List Entry)) (s : Store) → placesChanged as′ (writtenAll ts s .places) ≤ placesChanged as′ (s .places) + length ts
-changed-all as′ [] s = omega arith
-changed-all as′ (t ∷ ts) s = omega (arith, changed-all as′ ts (written t s), changed-written as′ t s)
+changed-all : (xs : List (List ℕ)) (ts : List (List Entry)) (s : Store) → placesChanged xs (writtenAll ts s .places) ≤ placesChanged xs (s .places) + length ts
+changed-all xs [] s = omega arith
+changed-all xs (t ∷ ts) s = omega (arith, changed-all xs ts (written t s), changed-written xs t s)
 
 -- ---- how many tables come out of a merge
 
