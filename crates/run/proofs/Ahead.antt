@@ -8,10 +8,9 @@ use mathlib.Core.Option.{Option, some, none, Option·map, Option·getD}
 use native.Mathlib.Omega.{arith}
 use borrow.Author.Tests.{lt-ltb, le-ltb, leb-true, leb-false}
 use lib.Dec.{leb}
-use lib.ListN.{length, drop, length-append}
+use lib.ListN.{length, length-append}
 use lib.Seq.{sets, length-sets}
 use Rattle.number.specs.Number.{Bytes}
-use Rattle.number.proofs.Laws.{numberAt-bound, bytes-take, bytes-drop}
 use Rattle.number.proofs.Sets.{sets-append}
 use Rattle.table.specs.Entry.{lengthAt}
 use Rattle.ldc.specs.Lists.{isSome}
@@ -26,7 +25,7 @@ use Rattle.ldc.proofs.Lent.Shape.{Shape, shape-lentOf}
 use Rattle.ldc.proofs.Lent.Shows.{bytes-storeOf, whole-storeOf, sound-storeOf, lentOf-storeOf}
 use Rattle.ldc.proofs.Lent.Round.{storeOf-lentOf, sizes-lentOf}
 use Rattle.ldc.proofs.Lent.Rules.{kept-lentOf}
-use Rattle.ldc.proofs.Serving.Splits.{Sent}
+use Rattle.ldc.proofs.Serving.Splits.{sent-at}
 use Rattle.ldc.proofs.Serving.Keeps.{keeps}
 use Rattle.ldc.proofs.Serving.KeepsWhole.{whole-keeps}
 use Rattle.ldc.proofs.Serving.Replies.{reply-short}
@@ -35,11 +34,6 @@ use Rattle.requests.specs.Rest.{rest}
 use Rattle.requests.proofs.Splits.{whole-fits, rest-all, rest-long, rest-end, rest-turn, rest-broken, some-map}
 use Rattle.serve.specs.Turn.{Turned, turn, turned}
 use Rattle.run.specs.Ran.{ran, requestsIn}
-
-sent-at : (bytes : List ℕ) (at : ℕ) → Bytes bytes → Sent (requestAt bytes at)
-unfolding requestAt
-sent-at bytes at b =
-    (bytes-take (lengthAt bytes at - 4) (drop (at + 4) bytes) (bytes-drop (at + 4) bytes b), numberAt-bound 2 bytes (at + 2) b)
 
 ran-same : {n n′ w w′ : ℕ} {m m′ : Lent} {a a′ : List ℕ} → n ≡ n′ → w ≡ w′ → m ≡ m′ → a ≡ a′ → ran 0 n w m a ≡ ran 0 n′ w′ m′ a′
 ran-same {n′ = n′} {w = w} {w′ = w′} {m = m} {m′ = m′} {a = a} en ew em ea =

@@ -18,7 +18,7 @@ use Rattle.ldc.proofs.Basics.Cases.{cases}
 abbrev pub Sent : Request → Type 0
 Sent r = Bytes (r .body) × (r .kind < 65536)
 
-sent-at : (bytes : List ℕ) (at : ℕ) → Bytes bytes → Sent (requestAt bytes at)
+pub sent-at : (bytes : List ℕ) (at : ℕ) → Bytes bytes → Sent (requestAt bytes at)
 unfolding requestAt
 sent-at bytes at b =
     (bytes-take (lengthAt bytes at - 4) (drop (at + 4) bytes) (bytes-drop (at + 4) bytes b), numberAt-bound 2 bytes (at + 2) b)
