@@ -2,7 +2,7 @@
 
 use std::fmt;
 use std::io::ErrorKind;
-use zilgwern::{Error, Refused};
+use zilgwern::{Error, Refusal, Refused};
 
 #[derive(Debug)]
 pub enum Failure {
@@ -70,17 +70,46 @@ impl fmt::Display for Failure {
     }
 }
 
-/// A refusal by its number; that of a damaged store by the letter and the text of the broken rule.
+/// A refusal by its number, with what can be done about it; that of a damaged store by the letter and the text of the
+/// broken rule.
 fn refusal(out: &mut fmt::Formatter, error: &Error) -> fmt::Result {
     write!(out, "refused, {error}")?;
     match error {
+        Error::Request(Refusal::MemoryFull) => {
+            write!(
+                out,
+                "\n  `flush` writes the memory table to a place and makes room for new keys."
+            )
+        }
+        Error::Request(Refusal::NoPlace) => {
+            write!(
+                out,
+                "\n  `tidy all` may free places. If it is refused too, the store is too small."
+            )
+        }
         Error::Refused(Refused::NotSound(rule)) => {
             let (letter, text) = (rule.letter(), rule.explanation());
-            write!(out, "\n  Rule {letter} of a sound store: {text}")?;
+            paragraph(out, &format!("Rule {letter} of a sound store: {text}"))?;
             write!(out, "\n  Nothing was changed. Bring back a copy that is sound.")
         }
         _ => Ok(()),
     }
+}
+
+/// Words below a message, indented, in lines of at most 100 columns.
+fn paragraph(out: &mut fmt::Formatter, text: &str) -> fmt::Result {
+    let mut column = usize::MAX;
+    for word in text.split(' ') {
+        let length = word.chars().count();
+        if column.saturating_add(1 + length) > 100 {
+            write!(out, "\n  {word}")?;
+            column = 2 + length;
+        } else {
+            write!(out, " {word}")?;
+            column += 1 + length;
+        }
+    }
+    Ok(())
 }
 
 impl From<Error> for Failure {

@@ -58,7 +58,17 @@ fn refusals_have_status_3_and_their_number() {
         assert_eq!(folder.done(&["--store", "s", "put", &key.to_string(), "v"]), "done\n");
     }
     fails(&folder, &["--store", "s", "put", "16", "v"], 3, "refused, 18: ");
+    fails(&folder, &["--store", "s", "put", "16", "v"], 3, "`flush` writes the memory table");
     fails(&folder, &["--store", "s", "scan", "7", "6"], 3, "refused, 19: scan with low above high");
+}
+
+#[test]
+fn a_full_store_says_what_may_help() {
+    let folder = with_store("full");
+    let lines: String = (0..16).map(|key| format!("put {key} v\nflush\n")).collect();
+    folder.call_with(&["-s", "s", "script"], format!("{lines}put 99 v\n").as_bytes());
+    fails(&folder, &["-s", "s", "flush"], 3, "refused, 20: ");
+    fails(&folder, &["-s", "s", "flush"], 3, "`tidy all` may free places");
 }
 
 #[test]

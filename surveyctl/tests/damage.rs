@@ -59,14 +59,12 @@ fn each_rule_is_told_by_its_letter_and_its_text() {
             let Came { status, out, err } = folder.call(&[&["--store", "s"], words].concat());
             assert_eq!((status, out.as_str()), (3, ""), "{name}");
             let letter = rule.letter();
-            assert!(
-                err.contains(&format!("refused, 5: store not sound, rule {letter}: ")),
-                "{name}: {err}"
-            );
-            assert!(
-                err.contains(&format!("Rule {letter} of a sound store: {}", rule.explanation())),
-                "{name}"
-            );
+            let told = format!("refused, 5: store not sound, rule {letter}: ");
+            assert!(err.contains(&told), "{name}: {err}");
+            assert!(err.lines().skip(1).all(|line| line.len() <= 100), "{err}");
+            let text = format!("Rule {letter} of a sound store: {}", rule.explanation());
+            let words: Vec<&str> = err.split_whitespace().collect();
+            assert!(words.join(" ").contains(&text), "{name}: {err}");
             assert!(folder.read("s") == bytes, "{name}: the file was changed");
         }
     }

@@ -78,6 +78,9 @@ fn the_picture_as_an_svg() {
     }
     assert!(open.is_empty());
     assert!(svg.starts_with("<svg xmlns=\"http://www.w3.org/2000/svg\" "));
+    // The slice that waits for its merge is filled in the frozen table.
+    let waits = "fill=\"#9cc9e3\"><title>place 1, frozen";
+    assert_eq!(svg.matches(waits).count(), 1);
     for tip in [
         "memory: 1, 50 to 50",
         "place 2, level 0: 1 entry, 12 1.000 to 12 1.000",

@@ -35,6 +35,9 @@
 //! assert_eq!(error.number(), 1);
 //! assert!(error.to_string().starts_with("1: "));
 //! ```
+//!
+//! [`Store::range`] goes over any number of values, [`Store::view`] shows what stands where, and [`Memory::to_bytes`] gives
+//! the bytes to keep a store by. `examples/recorder.rs` puts it together.
 
 mod bytes;
 mod error;

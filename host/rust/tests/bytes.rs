@@ -105,7 +105,20 @@ fn bytes_that_are_no_answers_are_told_so() {
         wrong += u32::from(!rest.is_empty());
     }
     assert!(wrong > 1000);
-    for bytes in [&[][..], &[6], &[6, 0, 1, 0, 0], &[5, 0, 1, 0, 0], &[0; 6], &[6, 0, 1, 0, 9, 0]] {
+    let wrong: [&[u8]; 10] = [
+        &[],
+        &[6],
+        &[6, 0, 1, 0, 0],
+        &[5, 0, 1, 0, 0],
+        &[0; 6],
+        &[6, 0, 1, 0, 9, 0],
+        &[7, 0, 1, 0, 0, 0, 0],
+        // Scans: one entry too few, and a `more` that is neither 0 nor 1. A tidy: step 4.
+        &[10, 0, 4, 0, 0, 0, 1, 0, 0, 0],
+        &[10, 0, 4, 0, 0, 0, 0, 0, 2, 0],
+        &[10, 0, 6, 0, 0, 0, 4, 0, 0, 0],
+    ];
+    for bytes in wrong {
         let mut rest = bytes;
         assert_eq!((Reply::take(&mut rest), rest), (None, bytes));
     }
