@@ -12,15 +12,13 @@ sed -i -E \
     -e '/^use book::(list|make|place|row);$/d' \
     -e '/^use read::(hit|look|reply|report);$/d' \
     -e '/^use merger::tables;$/d' \
-    -e '/^use compact::flush;$/d' \
     -e '/^use descend::(down|hang|range);$/d' \
     -e '/^use graft::(merge|release);$/d' \
-    -e '/^use serve::(body|bare|steps|dispatch);$/d' \
-    -e 's/(^|[^:A-Za-z0-9_])serve::(body|bare|steps|dispatch)::/\1\2::/g' \
     -e '/^use store::run;$/d' \
     -e 's/(^|[^:A-Za-z0-9_])store::run::/\1run::/g' \
     -e 's/Rattle\.store\.specs\.declared\.run\./Rattle.run.specs.declared./g' \
-    -e 's/Rattle\.store\.(specs\.Ran|proofs\.Ahead|proofs\.Runs)/Rattle.run.\1/g' \
+    -e 's/Rattle·(store|run)\.(specs\.Ran|proofs\.Ahead)/Rattle.serving.\2/g' \
+    -e 's/Rattle\.store\.proofs\.Runs/Rattle.run.proofs.Runs/g' \
     -e 's/(^|[^:A-Za-z0-9_])build::(append|append_in|put_entry)\(/\1append::\2(/g' \
     -e 's/(^|[^:A-Za-z0-9_])plan::make_plan\(/\1planner::make_plan(/g' \
     "$@"

@@ -34,7 +34,7 @@ use Rattle.read.specs.Shown.{Kept}
 use Rattle.requests.specs.Rest.{rest}
 use Rattle.requests.proofs.Splits.{whole-fits, rest-all, rest-long, rest-end, rest-turn, rest-broken, some-map}
 use Rattle.serve.specs.Turn.{Turned, turn, turned}
-use Rattle.run.specs.Ran.{ran, requestsIn}
+use Rattle.serving.specs.Ran.{ran, requestsIn}
 
 sent-at : (bytes : List ℕ) (at : ℕ) → Bytes bytes → Sent (requestAt bytes at)
 unfolding requestAt
