@@ -13,7 +13,7 @@ use Rattle.ldc.specs.Lent.{Lent, sizesGood, storeOf, broken}
 use Rattle.ldc.specs.Request.{Request}
 use Rattle.ldc.specs.Run.{split, roomLimit, serveAll, refusedRun, acceptedRun, runSplit, run, check, LetterOf}
 use Rattle.ldc.proofs.Basics.Cases.{cases}
-use Rattle.run.specs.Ran.{ran, requestsIn}
+use Rattle.serving.specs.Ran.{ran, requestsIn}
 
 split-none : (m : Lent) (o : Option (List Request)) (answer : List ℕ) → isSome o ≡ false → runSplit m o answer ≡ refusedRun 4 m answer
 split-none m none answer h = refl

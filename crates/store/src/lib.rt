@@ -6,7 +6,7 @@ ghost use lib.ListN.{getD};
 ghost use Rattle.ldc.specs.Run.{make, run, LetterOf};
 ghost use Rattle.book.specs.Made.{lent, made};
 ghost use Rattle.sound.specs.Answer.{Answers};
-ghost use Rattle.run.specs.Ran.{ran};
+ghost use Rattle.serving.specs.Ran.{ran};
 
 // Makes a new store in any lent memory: 0, or 1 for sizes, or 2 for a threshold outside 1 to 8; refused, nothing is changed.
 #[no_mangle]

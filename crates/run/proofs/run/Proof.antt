@@ -10,7 +10,7 @@ use Rattle.ldc.specs.Lent.{Lent, sizesGood, storeOf}
 use Rattle.ldc.specs.Lists.{isSome}
 use Rattle.ldc.specs.Run.{split, serveAll, acceptedRun}
 use Rattle.book.specs.Made.{lent}
-use Rattle.run.specs.Ran.{ran, requestsIn}
+use Rattle.serving.specs.Ran.{ran, requestsIn}
 use Rattle.run.proofs.Runs.{run-sizes, run-short, run-no-list, run-unsound, run-served, refused-ran, check-sound, check-unsound, check-five, letter-none}
 use Rattle.run.proofs.run.Statement.{statement}
 use Rattle.run.proofs.run.Tie as tie

@@ -33,7 +33,7 @@ use Rattle.read.specs.Shown.{Kept}
 use Rattle.requests.specs.Rest.{rest}
 use Rattle.requests.proofs.Splits.{whole-fits, rest-all, rest-long, rest-end, rest-turn, rest-broken, some-map}
 use Rattle.serve.specs.Turn.{Turned, turn, turned}
-use Rattle.run.specs.Ran.{ran, requestsIn}
+use Rattle.serving.specs.Ran.{ran, requestsIn}
 
 ran-same : {n n′ w w′ : ℕ} {m m′ : Lent} {a a′ : List ℕ} → n ≡ n′ → w ≡ w′ → m ≡ m′ → a ≡ a′ → ran 0 n w m a ≡ ran 0 n′ w′ m′ a′
 ran-same {n′ = n′} {w = w} {w′ = w′} {m = m} {m′ = m′} {a = a} en ew em ea =

@@ -9,9 +9,9 @@ use Rattle.book.specs.Head.{headWords}
 use Rattle.book.specs.Made.{lent}
 use Rattle.requests.proofs.Splits.{whole-fits}
 use Rattle.writer.proofs.Keeping.{shape-of}
-use Rattle.run.proofs.Ahead.{Goes, goes-start, whole-there, goes-on, goes-end, goes-stop}
-use Rattle.run.proofs.serve_all.Statement.{statement}
-use Rattle.run.proofs.serve_all.Tie as tie
+use Rattle.serving.proofs.Ahead.{Goes, goes-start, whole-there, goes-on, goes-end, goes-stop}
+use Rattle.serving.proofs.serve_all.Statement.{statement}
+use Rattle.serving.proofs.serve_all.Tie as tie
 
 abbrev Inv-loop : tie.InvT-loop
 Inv-loop area₀ cards₀ lists₀ memory₀ list answer₀ reached₀ at₀ served₀ written₀ area cards lists memory answer reached at served written =

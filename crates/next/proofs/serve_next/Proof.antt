@@ -14,8 +14,8 @@ use Rattle.book.specs.Head.{headWords}
 use Rattle.book.specs.Made.{lent}
 use Rattle.requests.proofs.Splits.{whole-fits}
 use Rattle.serve.specs.Turn.{request, turned}
-use Rattle.run.proofs.serve_next.Statement.{statement}
-use Rattle.run.proofs.serve_next.Tie as tie
+use Rattle.next.proofs.serve_next.Statement.{statement}
+use Rattle.next.proofs.serve_next.Tie as tie
 
 -- The request ends within the list, and has its four bytes.
 there : (c : tie.Start)
