@@ -17,7 +17,7 @@ use Rattle.serving.specs.Ran.{requestsIn}
 unfoldable pub newOne : Store
 newOne = newStore 4 (chop 32 (zeros 32768))
 
--- Serving all requests, with room for every reply.
+-- Serving all requests, with room for every reply: what one run gives whose answer buffer is long enough (law `one-run`).
 abbrev pub serveEach : Store → List Request → Answered
 serveEach s [] = record { store = s; bytes = []; served = 0 }
 serveEach s (r ∷ rs) = after (replyOf r (serve s r)) (serveEach (serve s r .store) rs)
