@@ -1,0 +1,148 @@
+// A history: a store made over lent memory, and runs performed on it one after the other. The contract is demand 3, of what memory and answers
+// then hold.
+ghost use mathlib.Core.Path.{_≡_};
+ghost use mathlib.Core.Bool.{true};
+ghost use lib.ListN.{length};
+ghost use Rattle.book.specs.Made.{lent};
+ghost use Rattle.history.specs.Pieces.{pieces, ready, Runs};
+ghost use Rattle.history.specs.Performs.{RanOne, Ran, Performs};
+
+pub mod cut;
+
+// What a history returns: the number of making the store, and how many runs were performed.
+pub struct Done {
+    pub number: u64,
+    pub runs: usize,
+}
+
+// Performs run k, and notes how many requests it served.
+fn run_one(
+    area: &mut [u8],
+    cards: &mut [[u64; 26]],
+    lists: &mut [u16],
+    head: &mut [u64; 10],
+    memory: &mut [u8; 1024],
+    input: &[u8],
+    ends: &[usize],
+    answers: &mut [u8],
+    stops: &[usize],
+    served: &mut [usize],
+    k: usize,
+)
+    requires { ⌜ ready (length (now input)) (now ends) (length (now answers)) (now stops) (length (now served)) k ≡ true ⌝ }
+    ensures { λ _. ⌜
+        RanOne
+        (lent (now (area .entry)) (now (cards .entry)) (now (lists .entry)) (now (head .entry)) (now (memory .entry)))
+        (pieces (now (input .entry)) (now (ends .entry)) (now (answers .entry)) (now (stops .entry)) (now (served .entry)))
+        k
+        (lent (now (area .exit)) (now (cards .exit)) (now (lists .exit)) (now (head .exit)) (now (memory .exit)))
+        (pieces (now (input .entry)) (now (ends .entry)) (now (answers .exit)) (now (stops .entry)) (now (served .exit)))
+        ⌝ }
+{
+    let from = cut::start(ends, k);
+    let end = ends[k];
+    let first = cut::start(stops, k);
+    let stop = stops[k];
+    let done = run::run(
+        area,
+        cards,
+        lists,
+        head,
+        memory,
+        &input[from..end],
+        &mut answers[first..stop],
+    );
+    served[k] = done.served;
+}
+
+// Performs the first n runs, one after the other.
+fn run_all(
+    area: &mut [u8],
+    cards: &mut [[u64; 26]],
+    lists: &mut [u16],
+    head: &mut [u64; 10],
+    memory: &mut [u8; 1024],
+    input: &[u8],
+    ends: &[usize],
+    answers: &mut [u8],
+    stops: &[usize],
+    served: &mut [usize],
+    n: usize,
+)
+    requires { ⌜ Runs (length (now input)) (now ends) (length (now answers)) (now stops) (length (now served)) n ⌝ }
+    ensures { λ _. ⌜
+        Ran
+        (lent (now (area .entry)) (now (cards .entry)) (now (lists .entry)) (now (head .entry)) (now (memory .entry)))
+        (pieces (now (input .entry)) (now (ends .entry)) (now (answers .entry)) (now (stops .entry)) (now (served .entry)))
+        n
+        (lent (now (area .exit)) (now (cards .exit)) (now (lists .exit)) (now (head .exit)) (now (memory .exit)))
+        (pieces (now (input .entry)) (now (ends .entry)) (now (answers .exit)) (now (stops .entry)) (now (served .exit)))
+        ⌝ }
+{
+    let mut k = 0;
+    while k < n {
+        run_one(
+            area,
+            cards,
+            lists,
+            head,
+            memory,
+            input,
+            ends,
+            answers,
+            stops,
+            served,
+            k,
+        );
+        k += 1;
+    }
+}
+
+// Makes a store with this threshold over whatever is lent, and performs one run for each k: its request list is the part of `input` from the end
+// of the list before to ends[k], its answer buffer the part of `answers` from the stop of the buffer before to stops[k], and how many requests it
+// served is noted in served[k]. Where an end or a stop is missing, falls, or lies beyond the bytes, or there is no room for the number, the
+// history ends. Demand 3 holds of what memory and answers then hold.
+pub fn perform(
+    area: &mut [u8],
+    cards: &mut [[u64; 26]],
+    lists: &mut [u16],
+    head: &mut [u64; 10],
+    memory: &mut [u8; 1024],
+    threshold: u64,
+    input: &[u8],
+    ends: &[usize],
+    answers: &mut [u8],
+    stops: &[usize],
+    served: &mut [usize],
+) -> Done
+    ensures { λ r. ⌜
+        Performs
+        (lent (now (area .entry)) (now (cards .entry)) (now (lists .entry)) (now (head .entry)) (now (memory .entry)))
+        threshold
+        (pieces (now (input .entry)) (now (ends .entry)) (now (answers .entry)) (now (stops .entry)) (now (served .entry)))
+        (r .number)
+        (r .runs)
+        (lent (now (area .exit)) (now (cards .exit)) (now (lists .exit)) (now (head .exit)) (now (memory .exit)))
+        (pieces (now (input .entry)) (now (ends .entry)) (now (answers .exit)) (now (stops .entry)) (now (served .exit)))
+        ⌝ }
+{
+    let number = make::make(area, cards, lists, head, memory, threshold);
+    if number != 0 {
+        return Done { number, runs: 0 };
+    }
+    let n = cut::runs(input.len(), ends, answers.len(), stops, served.len());
+    run_all(
+        area,
+        cards,
+        lists,
+        head,
+        memory,
+        input,
+        ends,
+        answers,
+        stops,
+        served,
+        n,
+    );
+    Done { number, runs: n }
+}
