@@ -127,18 +127,31 @@ impl Implementation for Proved {
     }
 }
 
-/// A check without guards and copies, for timing.
-pub fn check_in_place(lent: &mut Lent) -> (u64, u64) {
+/// The pieces as they stand, without guards and copies, for timing.
+fn in_place(lent: &mut Lent) -> zilgwern_sys::Pieces {
     let Lent { area, cards, lists, head, memory } = lent;
-    let pieces = zilgwern_sys::Pieces {
+    zilgwern_sys::Pieces {
         area: &mut area[..],
         cards: &mut cards[..],
         lists: &mut lists[..],
         head,
         memory,
-    };
+    }
+}
+
+/// A check without guards and copies.
+pub fn check_in_place(lent: &mut Lent) -> (u64, u64) {
     let mut letter = 0;
     // SAFETY: as above.
-    let number = unsafe { pieces.check(&mut letter) };
+    let number = unsafe { in_place(lent).check(&mut letter) };
     (number, letter)
+}
+
+/// A run without guards and copies.
+pub fn run_in_place(lent: &mut Lent, list: &[u8], answers: &mut [u8]) -> Outcome {
+    let mut outcome = [0; 3];
+    // SAFETY: as above.
+    let number = unsafe { in_place(lent).run(list, answers, &mut outcome) };
+    let [letter, served, written] = outcome;
+    Outcome { number, letter, served, written }
 }
