@@ -10,10 +10,11 @@ use Rattle.ldc.specs.Run.{Outcome, run, make}
 use Rattle.ldc.specs.History.{events, lentAfter, servedIn, requestsIn, unmerged, Holds}
 use Rattle.history.specs.Pieces.{Pieces, startOf, piece, Runs, callAt, callsIn, eventsIn, notedIn}
 
--- One run more: memory, its answer buffer and its number are the definition's, and nothing else changes.
+-- What the definition says of run k on memory `m`.
 unfoldable pub outcomeAt : Lent → Pieces → (k : ℕ) → Outcome
 outcomeAt m p k = run m (callAt p k .list) (callAt p k .answer)
 
+-- One run: memory, its answer buffer and its number are the definition's, and no other byte of the answers and no other number changes.
 pub record RanOne (m : Lent) (p : Pieces) (k : ℕ) (m′ : Lent) (p′ : Pieces) : Type 0 where
   pub left : m′ ≡ outcomeAt m p k .lent
   pub answered : p′ .answers ≡ sets (p .answers) (startOf (p .stops) k) (outcomeAt m p k .answer)
@@ -31,8 +32,9 @@ pub record Ran (m : Lent) (p : Pieces) (n : ℕ) (m′ : Lent) (p′ : Pieces) :
   pub behind : drop (startOf (p .stops) n) (p′ .answers) ≡ drop (startOf (p .stops) n) (p .answers)
   pub unused : drop n (p′ .served) ≡ drop n (p .served)
 
--- Demand 3 in the terms of what is there at the end: `m′` is what is lent then, and the events are those read off then. The first two fields
--- tie both to the definition's history from a store made anew over `m`; the last two are those of `Demand3`.
+-- Demand 3 in the terms of what is there at the end: `m′` is what is lent then, and the events are those read off then.
+-- `runs` says how many runs there were, `ran` ties all to the definition's history from a store made anew over `m`; the last two fields are
+-- those of `Demand3`.
 pub record Joined (m : Lent) (t : ℕ) (p : Pieces) (n : ℕ) (m′ : Lent) (p′ : Pieces) : Type 0 where
   pub runs : Runs (length (p .input)) (p .ends) (length (p .answers)) (p .stops) (length (p .served)) n
   pub ran : Ran (make m t .lent) p n m′ p′

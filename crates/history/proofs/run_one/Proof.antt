@@ -1,11 +1,12 @@
 -- `run_one` meets its contract: list and buffer are the parts that the definition cuts out.
 use Prim.Native.Nat.{ℕ, _+_, _-_, _≤_, _<_}
-use mathlib.Core.Path.{_≡_, _∙_}
-use mathlib.Core.List.{List}
+use mathlib.Core.Path.{_≡_, _∙_, ap}
+use mathlib.Core.List.{List, _++_}
 use native.Mathlib.Omega.{arith}
 use borrow.Author.Needs.{needs}
-use lib.ListN.{length, getD}
-use Rattle.number.proofs.Sets.{length-part}
+use lib.ListN.{length, getD, take, drop, length-set}
+use lib.Seq.{length-sets}
+use Rattle.number.proofs.Sets.{length-part, sets-back}
 use Rattle.book.specs.Made.{lent}
 use Rattle.history.proofs.Starts.{Ends, ready-room, ready-list, ready-buffer}
 use Rattle.history.proofs.One.{ran-one}
@@ -67,20 +68,51 @@ mul-served c = let h = roomed (c .before .before .before .before .before .before
 slice-write-served : tie.Need-slice-write-served
 slice-write-served c = let h = roomed (c .before .before .before .before .before .before .before .before .before .before .before .before .before .before .before .before .before .before .before .before .before .before .before .before .before .before) in let g = c .before .before .before .before .before .before .before .before .before .before .before .before .before .before .before .before .before .before .before .before .before .before .before .before .before .before .good in search needs
 
+-- The buffer comes back as long as it was, and so do all answers.
+fits : (c : tie.After-run)
+    → let t = c .before .before .before .before .before .before .before .before .before in
+    let a = t .before .before .before .before .before .before .before .before .before .before .args in
+    t .start2 .result + (getD (a .stops .now) (a .k) 0 - t .start2 .result) ≤ length (a .answers .now)
+fits c =
+    let t = c .before .before .before .before .before .before .before .before .before in
+    let good = buffered (t .before .before .before .before .before .before .before .before .before .before) in
+    omega (arith, good .rises, good .within, t .start2 .ensures)
+
+kept : (c : tie.After-run)
+    → let t = c .before .before .before .before .before .before .before .before .before in
+    let a = t .before .before .before .before .before .before .before .before .before .before .args in
+    length (c .run .last .1 .1 .1 .1 .1 .1 .0) ≡ getD (a .stops .now) (a .k) 0 - t .start2 .result
+kept c =
+    let t = c .before .before .before .before .before .before .before .before .before in
+    let a = t .before .before .before .before .before .before .before .before .before .before .args in
+    c .run .kept .1 .1 .1 .1 .1 .1 .0 ∙ length-part (a .answers .now) (t .start2 .result) (getD (a .stops .now) (a .k) 0 - t .start2 .result) (fits c)
+
+back-length : (c : tie.After-run)
+    → let t = c .before .before .before .before .before .before .before .before .before in
+    let a = t .before .before .before .before .before .before .before .before .before .before .args in
+    let size = getD (a .stops .now) (a .k) 0 - t .start2 .result in
+    length (take (t .start2 .result) (a .answers .now) ++ (c .run .last .1 .1 .1 .1 .1 .1 .0 ++ drop size (drop (t .start2 .result) (a .answers .now)))) ≡ length (a .answers .now)
+back-length c =
+    let t = c .before .before .before .before .before .before .before .before .before in
+    let a = t .before .before .before .before .before .before .before .before .before .before .args in
+    let part = c .run .last .1 .1 .1 .1 .1 .1 .0 in
+    ap length (sets-back (a .answers .now) (t .start2 .result) (getD (a .stops .now) (a .k) 0 - t .start2 .result) part (fits c) (kept c))
+    ∙ length-sets (a .answers .now) (t .start2 .result) part
+
 same-length : tie.Need-same-length
-same-length c = search needs
+same-length c = c .before .before .before .before .before .before .before .run .kept .0
 
 same-length-2 : tie.Need-same-length-2
-same-length-2 c = search needs
+same-length-2 c = c .before .before .before .before .before .before .before .run .kept .1 .0
 
 same-length-3 : tie.Need-same-length-3
-same-length-3 c = search needs
+same-length-3 c = c .before .before .before .before .before .before .before .run .kept .1 .1 .0
 
 same-length-4 : tie.Need-same-length-4
-same-length-4 c = search needs
+same-length-4 c = back-length (c .before .before .before .before .before .before .before)
 
 same-length-5 : tie.Need-same-length-5
-same-length-5 c = search needs
+same-length-5 c = let a = c .before .before .before .before .before .before .before .before .before .before .before .before .before .before .before .before .before .before .before .before .before .before .before .before .before .before .args in length-set (a .served .now) (a .k) (c .before .before .before .before .before .before .before .run .result .served)
 
 returns : tie.Need-returns
 returns c =
@@ -90,14 +122,10 @@ returns c =
     let s = u .before .before .before .before .before .before .before .before in
     let a = s .args in
     let first : ℕ = t .start2 .result in
-    let size : ℕ = getD (a .stops .now) (a .k) 0 - first in
-    let good = buffered s in
-    let fits : first + size ≤ length (a .answers .now) = omega (arith, good .rises, good .within, t .start2 .ensures) in
     let part : List ℕ = n .run .last .1 .1 .1 .1 .1 .1 .0 in
-    let kept : length part ≡ size = n .run .kept .1 .1 .1 .1 .1 .1 .0 ∙ length-part (a .answers .now) first size fits in
     ran-one (lent (a .area .now) (a .cards .now) (a .lists .now) (a .head .now) (a .memory .now)) (a .input .now) (a .ends .now) (a .answers .now) (a .stops .now) (a .served .now) (a .k)
-    (u .start .result) first (u .start .ensures) (t .start2 .ensures) good (n .run .result .number) (n .run .result .served) (n .run .result .written)
-    (lent (n .run .last .0) (n .run .last .1 .0) (n .run .last .1 .1 .0) (n .run .last .1 .1 .1 .0) (n .run .last .1 .1 .1 .1 .0)) part kept (n .run .ensures .0)
+    (u .start .result) first (u .start .ensures) (t .start2 .ensures) (buffered s) (n .run .result .number) (n .run .result .served) (n .run .result .written)
+    (lent (n .run .last .0) (n .run .last .1 .0) (n .run .last .1 .1 .0) (n .run .last .1 .1 .1 .0) (n .run .last .1 .1 .1 .1 .0)) part (kept n) (n .run .ensures .0)
 
 pub run-one-spec : {M : Type 1} → statement M
 run-one-spec =
