@@ -112,7 +112,7 @@ same-length-4 : tie.Need-same-length-4
 same-length-4 c = back-length (c .before .before .before .before .before .before .before)
 
 same-length-5 : tie.Need-same-length-5
-same-length-5 c = let a = c .before .before .before .before .before .before .before .before .before .before .before .before .before .before .before .before .before .before .before .before .before .before .before .before .before .before .args in length-set (a .served .now) (a .k) (c .before .before .before .before .before .before .before .run .result .served)
+same-length-5 c = let a = c .before .before .before .before .before .before .before .before .before .before .before .before .before .before .before .before .before .before .before .before .before .before .before .before .before .before .args in length-set (a .served .now) (a .k) _
 
 returns : tie.Need-returns
 returns c =
