@@ -2,8 +2,10 @@
 ghost use mathlib.Core.Path.{_≡_};
 ghost use Rattle.ldc.specs.Lent.{lentOf};
 ghost use Rattle.book.specs.Made.{lent};
+ghost use Rattle.cards.specs.Card.{rowsOf};
 ghost use Rattle.surveyor.specs.Whole.{newOne, Piece, Finished};
 use crate::skip;
+use cards::Card;
 
 // What became of a list: the number of its run, how many requests were served, how many bytes of answers were handed on, and whether
 // writing them failed.
@@ -26,25 +28,30 @@ fn hand_on(fd: i32, list: &[u8], written: usize, piece: &[u8]) -> bool
 pub fn deliver(
     fd: i32,
     area: &mut [u8],
-    cards: &mut [[u64; 26]],
+    first: [Card; 32],
+    rows: &mut [[u64; 26]],
     lists: &mut [u16],
     head: &mut [u64; 10],
     memory: &mut [u8; 1024],
     list: &[u8],
 ) -> Delivered
-    requires { ⌜ lent (now area) (now cards) (now lists) (now head) (now memory) ≡ lentOf newOne ⌝ }
+    requires { ⌜ (lent (now area) (now rows) (now lists) (now head) (now memory) ≡ lentOf newOne) × (now rows ≡ rowsOf first) ⌝ }
     ensures { λ r. ⌜
-        Finished (now (list .entry)) (lent (now (area .exit)) (now (cards .exit)) (now (lists .exit)) (now (head .exit)) (now (memory .exit)))
+        Finished (now (list .entry)) (lent (now (area .exit)) (now (rows .exit)) (now (lists .exit)) (now (head .exit)) (now (memory .exit)))
         (r .number) (r .served) (r .written) (r .failed)
         ⌝ }
 {
     let mut answer = [0u8; 4096];
+    let mut cards = first;
     let mut at = 0;
     let mut served = 0;
     let mut written = 0;
     while at < list.len() {
         let rest = &list[at..];
-        let ran = run::run(area, cards, lists, head, memory, rest, &mut answer);
+        let turn = held::go_on(area, cards, rows, lists, head, memory, rest, &mut answer);
+        let next = turn.cards;
+        cards = next;
+        let ran = turn.ran;
         if ran.number != 0 {
             return Delivered {
                 number: ran.number,

@@ -17,22 +17,26 @@ pub fn survey_list(fd: i32, list: &[u8]) -> Delivered
     ensures { λ r. ⌜ Told (now (list .entry)) (r .number) (r .served) (r .written) (r .failed) ⌝ }
 {
     let mut area = [0u8; 32768];
-    let mut cards = [[0u64; 26]; 32];
+    let blank = cards::card_of([0u64; 26]);
+    let mut rows = [[0u64; 26]; 32];
     let mut lists = [0u16; 128];
     let mut head = [0u64; 10];
     let mut memory = [0u8; 1024];
-    make::make(
+    let made = held::start(
         &mut area,
-        &mut cards,
+        [blank; 32],
+        &mut rows,
         &mut lists,
         &mut head,
         &mut memory,
         THRESHOLD,
     );
+    let first = made.cards;
     deliver::deliver(
         fd,
         &mut area,
-        &mut cards,
+        first,
+        &mut rows,
         &mut lists,
         &mut head,
         &mut memory,

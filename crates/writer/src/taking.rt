@@ -7,8 +7,8 @@ ghost use Rattle.table.specs.Limits.{placeSize};
 ghost use Rattle.book.specs.Head.{headWords};
 ghost use Rattle.book.specs.Place.{freeRows};
 ghost use Rattle.writer.specs.Take.{Takes};
-use book::found::Found;
 use book::head::Head;
+use position::Position;
 use table::limits;
 
 // A place that was taken, and the head after it.
@@ -18,17 +18,27 @@ pub struct Taken {
 }
 
 // Takes the first free place from the cursor on, going round: its card becomes live without links, and the cursor the place after it.
-// Every place is taken here.
+// Every place is taken here, through the position that is lent for it.
 pub fn take(cards: &mut [[u64; 26]], mut head: Head) -> Taken
     requires { ⌜ (head .cursor < length (now cards)) × (1 ≤ freeRows (now cards)) ⌝ }
     ensures { λ r. ⌜ Takes (now (cards .entry)) (headWords head) (now (cards .exit)) (headWords (r .head)) (r .place) ⌝ }
 {
-    let Found::At(p) = place::first_free(cards, head.cursor) else {
-        return Taken { place: 0, head };
+    let key1 = head.key1;
+    let key2 = head.key2;
+    let from = Position {
+        cursor: head.cursor,
+        flag1: head.flag1,
+        key1,
+        flag2: head.flag2,
+        key2,
     };
-    row::set_state(cards, p, row::LIVE);
-    head.cursor = place::next(cards.len(), p);
-    Taken { place: p, head }
+    let taken = position::take(cards, from);
+    let to = taken.position;
+    head.cursor = to.cursor;
+    Taken {
+        place: taken.place,
+        head,
+    }
 }
 
 // Takes a place and writes a whole table to it; the rest of the area stays.

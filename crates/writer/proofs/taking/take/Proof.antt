@@ -1,74 +1,27 @@
--- `take` meets its contract: the place found from the cursor is the one that is taken; where none were found, none would be free.
-use mathlib.Core.Path.{_≡_, sym, _∙_}
-use native.Mathlib.Omega.{arith}
+-- `take` meets its contract: what is taken from the position is taken from the head, whose other words stay.
+use mathlib.Core.Path.{ap}
 use borrow.Author.Needs.{needs}
-use lib.ListN.{length, length-set}
-use Rattle.book.specs.Place.{freeAt}
-use Rattle.book.specs.declared.found.Found.the-variants.{At}
-use Rattle.book.proofs.Free.{found-free, none-free}
+use lib.ListN.{set}
+use Rattle.book.specs.Head.{headWords}
+use Rattle.position.specs.declared.Position.{Position}
 use Rattle.writer.proofs.taking.take.Statement.{statement}
 use Rattle.writer.proofs.taking.take.Tie as tie
 
-first-free-requires : tie.Need-first-free-requires
-first-free-requires c κs = search needs
-
-enum-known-p : tie.Need-enum-known-p
-enum-known-p c = search needs
-
-enum-told : tie.Need-enum-told
-enum-told c = search needs
+take-requires : tie.Need-take-requires
+take-requires c κs = search needs
 
 same-length : tie.Need-same-length
 same-length c = search needs
 
 returns : tie.Need-returns
 returns c =
-    let b = c .before .before in
-    let a = b .before .before .args in
-    let none = none-free (a .cards .now) (a .head .cursor) (b .before .before .pre .0) (sym (b .first-free .ensures) ∙ c .enum-told .given .1) in
-    absurd (omega (arith, b .before .before .pre .1))
-
--- The place that was found.
-found : (c : tie.After-p)
-    → let a = c .before .before .before .before .args in
-    freeAt (length (a .cards .now)) (a .cards .now) (a .head .cursor) ≡ At (c .p .given .0 .0)
-found c = sym (c .before .before .first-free .ensures) ∙ c .p .given .1
-
-set-state-requires : tie.Need-set-state-requires
-set-state-requires c κs =
-    let p = c .before .before in
-    let b = p .before .before .before .before in
-    (found-free (b .args .cards .now) (length (b .args .cards .now)) (b .args .head .cursor) _ (b .pre .0) (found p) .0, omega arith)
-
-next-requires : tie.Need-next-requires
-next-requires c κs =
-    let p = c .before .before .before .before in
-    let b = p .before .before .before .before in
-    omega (arith, found-free (b .args .cards .now) (length (b .args .cards .now)) (b .args .head .cursor) _ (b .pre .0) (found p) .0)
-
-same-length-2 : tie.Need-same-length-2
-same-length-2 c = search needs
-
-returns-2 : tie.Need-returns-2
-returns-2 c =
-    let p = c .before .before .before .before .before in
-    let b = p .before .before .before .before in
+    let taken = c .before .before in
+    let e = taken .take .ensures in
     record {
-      first = found p;
-      row = c .before .before .set-state .ensures;
-      next = rw (c .next .ensures, c .before .before .set-state .ensures, length-set);
+      first = e .first;
+      row = e .row;
+      next = ap (λ (p : Position). set (headWords (taken .before .before .before .before .args .head)) 1 (p .cursor)) (e .next);
     }
 
 pub take-spec : {M : Type 1} → statement M
-take-spec =
-    tie.close
-    (tie.spec
-    first-free-requires
-    enum-known-p
-    enum-told
-    same-length
-    returns
-    set-state-requires
-    next-requires
-    same-length-2
-    returns-2)
+take-spec = tie.close (tie.spec take-requires same-length returns)
