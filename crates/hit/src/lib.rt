@@ -15,17 +15,11 @@ use key::Key;
 use read::hit::Hit;
 use table::search::Found;
 
-// In a place's table, by its least and greatest key before its entries.
+// In a place's table.
 pub fn in_table(area: &[u8], p: usize, key: Key) -> Hit
     requires { ⌜ Tabled (now area) p ⌝ }
     ensures { λ r. ⌜ Hits (now (area .entry)) (seeking.find (key .value) (entries (placeAt (p * placeSize) (now (area .entry))))) r ⌝ }
 {
-    if key.below(block::least(area, p)) {
-        return Hit::Nothing;
-    }
-    if block::greatest(area, p).below(key) {
-        return Hit::Nothing;
-    }
     let Found::At(at) = block::find(area, p, key) else {
         return Hit::Nothing;
     };

@@ -8,6 +8,9 @@ ghost use Rattle.table.specs.Table.{entriesGood, allZero, tableGood, isTable, i
 use key::Key;
 use table::limits;
 
+// The bytes that are looked at together.
+const WORD: usize = 8;
+
 // May an entry of this kind have this length?
 pub fn entry_form(kind: u16, len: usize) -> bool
     ensures { λ r. ⌜ r ≡ entryForm kind len ⌝ }
@@ -16,8 +19,8 @@ pub fn entry_form(kind: u16, len: usize) -> bool
         | (kind == limits::DELETE_MARK) & (len == limits::ENTRY_HEAD)
 }
 
-// Are all bytes from `from` on zero?
-fn all_zero(s: &[u8], from: usize) -> bool
+// Are all bytes from `from` on zero? One by one.
+fn rest_zero(s: &[u8], from: usize) -> bool
     ensures { λ r. ⌜ r ≡ allZero (drop from (now (s .entry))) ⌝ }
 {
     let mut i = from;
@@ -28,6 +31,21 @@ fn all_zero(s: &[u8], from: usize) -> bool
         i += 1;
     }
     true
+}
+
+// The same of a place, eight bytes at a time while there are eight: most of a half-full table is zeros.
+fn all_zero(s: &[u8], from: usize) -> bool
+    requires { ⌜ length (now s) ≡ placeSize ⌝ }
+    ensures { λ r. ⌜ r ≡ allZero (drop from (now (s .entry))) ⌝ }
+{
+    let mut i = from;
+    while i <= limits::PLACE_SIZE - WORD {
+        if number::get_u64(s, i) != 0 {
+            return false;
+        }
+        i += WORD;
+    }
+    rest_zero(s, i)
 }
 
 // Are the n entries behind the table's head of the right form, keys rising, and do they end just at `end`?

@@ -43,13 +43,21 @@ pub fn holder(area: &[u8], cards: &[[u64; 26]], items: &[u16], key: Key) -> usiz
     let mut high = items.len();
     while low < high {
         let mid = low + (high - low) / 2;
-        if span_end(area, cards, items[mid] as usize).below(key) {
-            low = mid + 1;
-        } else {
+        if key.below(block::least(area, items[mid] as usize)) {
             high = mid;
+        } else {
+            low = mid + 1;
         }
     }
-    low
+    if low == 0 {
+        return 0;
+    }
+    let last = low - 1;
+    if span_end(area, cards, items[last] as usize).below(key) {
+        low
+    } else {
+        last
+    }
 }
 
 // In the tables of a level and their links.

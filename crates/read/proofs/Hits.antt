@@ -8,15 +8,13 @@ use native.Mathlib.Omega.{arith}
 use lib.Dec.{leb}
 use lib.ListN.{length, getD, take}
 use lib.Seq.{take-suc}
-use Rattle.number.specs.Number.{Bytes}
 use Rattle.table.specs.Limits.{placeSize}
 use Rattle.table.specs.Entry.{Entry}
 use Rattle.table.specs.Table.{entries, placeAt}
-use Rattle.table.specs.Search.{find, findIn, shown, leastKey, greatestKey}
+use Rattle.table.specs.Search.{find, findIn, shown}
 use Rattle.table.specs.declared.search.Found.the-variants as found
 use Rattle.table.proofs.Position.{Stands}
 use Rattle.table.proofs.Found.{shown-find, find-stands}
-use Rattle.table.proofs.Bounds.{find-below, find-above}
 use Rattle.ldc.specs.Lists.{flat}
 use Rattle.ldc.specs.Store.{within}
 use Rattle.ldc.proofs.Entries.Finds.{orElse, find-append, find-within}
@@ -24,7 +22,7 @@ use Rattle.read.specs.Shown.{Tabled}
 use Rattle.read.specs.Hit.{hitEntry, Seated, Hits}
 use Rattle.read.specs.declared.hit.Hit.{Hit}
 use Rattle.read.specs.declared.hit.Hit.the-variants.{At, Nothing}
-use Rattle.read.proofs.Shows.{place-memory, place-valid}
+use Rattle.read.proofs.Shows.{place-memory}
 
 -- What stands in a table stands whole.
 pub seated-of : (s : List ℕ) (at : ℕ) → Stands s at → Seated s at
@@ -48,13 +46,6 @@ hit-none area o e = record { shown = sym e; seated = tt }
 pub missed : (area : List ℕ) (p k : ℕ) → findIn (placeAt (p * placeSize) area) k ≡ found.Nothing → find k (entries (placeAt (p * placeSize) area)) ≡ none
 unfolding shown
 missed area p k h = let s = placeAt (p * placeSize) area in sym (shown-find s k) ∙ ap (shown s) h
-
-module _ (area : List ℕ) (p k : ℕ) (b : Bytes area) (t : Tabled area p) where
-  pub none-below : k < leastKey (entries (placeAt (p * placeSize) area)) → find k (entries (placeAt (p * placeSize) area)) ≡ none
-  none-below h = find-below (entries (placeAt (p * placeSize) area)) 0 _ k (place-valid area p b t .keys) h
-
-  pub none-above : greatestKey (entries (placeAt (p * placeSize) area)) < k → find k (entries (placeAt (p * placeSize) area)) ≡ none
-  none-above h = find-above (entries (placeAt (p * placeSize) area)) 0 _ k (place-valid area p b t .keys) h
 
 -- ---- in a slice
 

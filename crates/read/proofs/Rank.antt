@@ -1,7 +1,7 @@
 -- The search of a level: spans rise, so the tables whose spans end below a key stand in front, and a key is read of the first of the
 -- others or of none.
-use Prim.Native.Nat.{ℕ, zero, suc, _≤_, _<_}
-use mathlib.Core.Path.{_≡_, refl, _∙_, ap}
+use Prim.Native.Nat.{ℕ, zero, suc, _*_, _≤_, _<_, _^_}
+use mathlib.Core.Path.{_≡_, refl, sym, _∙_, ap}
 use mathlib.Core.List.{List, [], _∷_, map, reverse, append-nil, List·Memᴰ, List·Memᴰ·head, List·Memᴰ·tail}
 use mathlib.Core.Logic.{inr}
 use mathlib.Core.Option.{none}
@@ -10,17 +10,19 @@ use borrow.Author.Tests.{ltb-true, ltb-false, lt-ltb, le-ltb}
 use lib.Dec.{ltb}
 use lib.ListN.{length, getD}
 use Rattle.number.specs.Number.{Bytes}
-use Rattle.table.specs.Search.{find}
+use Rattle.table.specs.Limits.{placeSize}
+use Rattle.table.specs.Table.{entries, placeAt}
+use Rattle.table.specs.Search.{find, leastKey, greatestKey}
 use Rattle.table.proofs.Tests.{cases}
 use Rattle.ldc.specs.Lists.{flat}
-use Rattle.ldc.specs.Store.{Store, links, table, slice, sources, spanEnd}
+use Rattle.ldc.specs.Store.{Store, links, table, slice, sources, spanStart, spanEnd}
 use Rattle.ldc.proofs.Entries.Finds.{orElse, find-append}
 use Rattle.ldc.proofs.Basics.ListLaws.{getD-mem}
 use Rattle.ldc.proofs.Stores.Order.{orElse-none}
-use Rattle.ldc.proofs.Stores.Spans.{Readable, Spans, rise-all, reads, reads-flat, reads-below, read-outside, flat-append}
+use Rattle.ldc.proofs.Stores.Spans.{Readable, Spans, leastEnd-own, greatestEnd-own, least-greatest, rise-all, reads, reads-flat, reads-below, read-outside, flat-append}
 use Rattle.read.specs.Shown.{shownBy, Legible, Rising, readsIn}
 use Rattle.read.specs.Level.{rank}
-use Rattle.read.proofs.Shows.{readable}
+use Rattle.read.proofs.Shows.{table-shown, readable}
 
 -- ---- the rank
 
@@ -53,6 +55,30 @@ rank-above s low k (p ∷ ps) (suc j) h hj b =
     let e = ends-rise s (suc (spanEnd s p)) ps j (h .2) (omega arith) in
     let r = rank-above s (suc (spanEnd s p)) k ps j (h .2) (omega arith) b in
     rw (lt-ltb (spanEnd s p) k (omega arith)) (omega arith)
+
+starts-rise : (s : Store) (low : ℕ) (ps : List ℕ) (j : ℕ) → Spans s low ps → j < length ps → low ≤ spanStart s (getD ps j 0)
+starts-rise s low [] j h hj = absurd (omega arith)
+starts-rise s low (p ∷ ps) zero h hj = h .0
+starts-rise s low (p ∷ ps) (suc j) h hj =
+    let r = starts-rise s (suc (spanEnd s p)) ps j (h .2) (omega arith) in omega (arith, h .0, h .1)
+
+-- The tables before one whose span does not start above the key are in front.
+pub rank-start : (s : Store) (low k : ℕ) (ps : List ℕ) (j : ℕ) → Spans s low ps → j < length ps → spanStart s (getD ps j 0) ≤ k → j ≤ rank s k ps
+unfolding rank
+rank-start s low k [] j h hj b = absurd (omega arith)
+rank-start s low k (p ∷ ps) zero h hj b = omega arith
+rank-start s low k (p ∷ ps) (suc j) h hj b =
+    let e = starts-rise s (suc (spanEnd s p)) ps j (h .2) (omega arith) in
+    let r = rank-start s (suc (spanEnd s p)) k ps j (h .2) (omega arith) b in
+    rw (lt-ltb (spanEnd s p) k (omega arith)) (omega arith)
+
+-- The least key of a table is in its span.
+least-spanned : (s : Store) (p : ℕ) → Readable s p → (spanStart s p ≤ leastKey (table s p)) × (leastKey (table s p) ≤ spanEnd s p)
+unfolding spanStart spanEnd
+least-spanned s p r = (
+  leastEnd-own (leastKey (table s p)) (links s p),
+  omega (arith, greatestEnd-own (greatestKey (table s p)) (links s p), least-greatest 0 (2 ^ 64) (table s p) (r .some) (r .keys)),
+)
 
 -- ---- what is read
 
@@ -104,6 +130,13 @@ module _ (area : List ℕ) (cards : List (List ℕ)) (items : List ℕ) (b : Byt
 
   pub spans : Spans (shownBy area cards) 0 items
   spans = rise-all (shownBy area cards) items all-readable (r .rises)
+
+  pub least-within : (j : ℕ) → j < length items
+      → (spanStart (shownBy area cards) (getD items j 0) ≤ leastKey (entries (placeAt (getD items j 0 * placeSize) area)))
+      × (leastKey (entries (placeAt (getD items j 0 * placeSize) area)) ≤ spanEnd (shownBy area cards) (getD items j 0))
+  least-within j h =
+      rw (sym (table-shown area cards g (getD items j 0)))
+      (least-spanned (shownBy area cards) (getD items j 0) (readable area cards g (getD items j 0) b (r .listed j h)))
 
   pub level-at : (k : ℕ) → rank (shownBy area cards) k items < length items
       → find k (readsIn (shownBy area cards) items) ≡ find k (flat (sources (shownBy area cards) (getD items (rank (shownBy area cards) k items) 0)))

@@ -1,13 +1,12 @@
 -- `all_zero` meets its contract. The loop's invariant: all bytes are zero if those from i on are.
-use Prim.Native.Nat.{_-_}
-use mathlib.Core.Path.{_≡_, refl, sym, _∙_, ap}
-use mathlib.Core.Bool.{false}
-use mathlib.Core.List.{[]}
+use Prim.Native.Nat.{_-_, _+_, _≤_}
+use mathlib.Core.Path.{_≡_, refl, sym, _∙_}
 use native.Mathlib.Omega.{arith}
-use borrow.Author.Tests.{eq-eqb, ne-eqb}
-use lib.ListN.{length, drop, drop-of-length-le}
+use borrow.Author.Needs.{needs}
+use lib.ListN.{length, drop}
+use Rattle.number.specs.Number.{numberAt}
 use Rattle.table.specs.Table.{allZero}
-use Rattle.table.proofs.Turn.{zero-turn}
+use Rattle.judge.proofs.Words.{zeros, not-zeros}
 use Rattle.judge.proofs.all_zero.Statement.{statement}
 use Rattle.judge.proofs.all_zero.Tie as tie
 
@@ -20,36 +19,35 @@ abbrev μ-loop : tie.MeasureT-loop
 loop-holds : tie.Need-loop-holds Inv-loop μ-loop
 loop-holds c = refl
 
-shared-slice-read-if1 : tie.Need-shared-slice-read-if1 Inv-loop μ-loop
-shared-slice-read-if1 c = omega arith
+sub-loop : tie.Need-sub-loop Inv-loop μ-loop
+sub-loop c = omega arith
+
+get-u64-requires : tie.Need-get-u64-requires Inv-loop μ-loop
+get-u64-requires c κs = omega (arith, c .before .before .before .pre)
 
 returns : tie.Need-returns Inv-loop μ-loop
 returns c =
     let l = c .before .before .before .loop in
-    let a = c .before .before .before .before .args in
-    let t : allZero (drop (a .from) (a .s .now)) ≡ false =
-    l .inv ∙ zero-turn (a .s .now) (l .i) (omega arith) ∙ rw (ne-eqb _ 0 (c .if1 .taken)) in
-    sym t
+    let b = c .before .before .before .before .before in
+    sym (l .inv ∙ not-zeros 8 (b .args .s .now) (l .i) (omega (arith, b .pre)) (λ e. c .if1 .taken (c .before .get-u64 .ensures ∙ e)))
 
 add-i : tie.Need-add-i Inv-loop μ-loop
 add-i c = omega arith
 
 loop-less : tie.Need-loop-less Inv-loop μ-loop
-loop-less c = omega arith
+loop-less c = omega (arith, c .before .before .before .before .before .pre)
 
 loop-again : tie.Need-loop-again Inv-loop μ-loop
 loop-again c =
     let l = c .before .before .before .loop in
-    let a = c .before .before .before .before .args in
-    l .inv ∙ zero-turn (a .s .now) (l .i) (omega arith) ∙ rw (eq-eqb _ 0 (c .if1 .left))
+    let b = c .before .before .before .before .before in
+    l .inv ∙ zeros 8 (b .args .s .now) (l .i) (omega (arith, b .pre)) (sym (c .before .get-u64 .ensures) ∙ c .if1 .left)
+
+rest-zero-requires : tie.Need-rest-zero-requires Inv-loop μ-loop
+rest-zero-requires c κs = search needs
 
 returns-2 : tie.Need-returns-2 Inv-loop μ-loop
-unfolding allZero
-returns-2 c =
-    let l = c .before .loop in
-    let s = c .before .before .args .s .now in
-    let none : drop (l .i) s ≡ [] = drop-of-length-le s {i = l .i} (omega arith) in
-    sym (l .inv ∙ ap allZero none)
+returns-2 c = c .rest-zero .ensures ∙ sym (c .before .before .loop .inv)
 
 pub all-zero-spec : {M : Type 1} → statement M
 all-zero-spec =
@@ -58,9 +56,11 @@ all-zero-spec =
     Inv-loop
     μ-loop
     loop-holds
-    shared-slice-read-if1
+    sub-loop
+    get-u64-requires
     returns
     add-i
     loop-less
     loop-again
+    rest-zero-requires
     returns-2)

@@ -63,7 +63,7 @@ entries-good-requires c κs =
     (b .pre, few (b .args .fewest) (d .before .before .kind-at .result) (d .before .count .result) (d .get-u16 .result) (c .if1 .taken))
 
 all-zero-requires : tie.Need-all-zero-requires
-all-zero-requires c κs = tt
+all-zero-requires c κs = c .before .before .before .before .before .before .before .pre
 
 returns : tie.Need-returns
 returns c =

@@ -1,0 +1,3 @@
+-- What the proofs here share:
+--   Words   bytes that are looked at together
+pub mod Words
