@@ -47,6 +47,15 @@ pub missed : (area : List ℕ) (p k : ℕ) → findIn (placeAt (p * placeSize) a
 unfolding shown
 missed area p k h = let s = placeAt (p * placeSize) area in sym (shown-find s k) ∙ ap (shown s) h
 
+-- What a hit says of what was sought.
+pub hit-nothing : (area : List ℕ) (o : Option Entry) (h : Hit) → Hits area o h → h ≡ Nothing → o ≡ none
+hit-nothing area o h t e = sym (t .shown) ∙ ap (hitEntry area) e
+
+pub hit-some : (area : List ℕ) (o : Option Entry) (h : Hit) (p at : ℕ) → Hits area o h → h ≡ At p at → o ≡ none → ⊥
+hit-some area o h p at t e n =
+    let clash : _≡_ {A = Option Entry} none (some _) = sym n ∙ sym (t .shown) ∙ ap (hitEntry area) e in
+    let z : _≡_ {A = ℕ} 0 1 = cc in omega arith
+
 -- ---- in a slice
 
 pub slice-inside : (k low high : ℕ) (es : List Entry) → (leb low k && leb k high) ≡ true → find k (within low high es) ≡ find k es

@@ -1,9 +1,9 @@
 -- The search of a level: spans rise, so the tables whose spans end below a key stand in front, and a key is read of the first of the
 -- others or of none.
-use Prim.Native.Nat.{ℕ, zero, suc, _*_, _≤_, _<_, _^_}
+use Prim.Native.Nat.{ℕ, zero, suc, _*_, _-_, _≤_, _<_, _^_}
 use mathlib.Core.Path.{_≡_, refl, sym, _∙_, ap}
 use mathlib.Core.List.{List, [], _∷_, map, reverse, append-nil, List·Memᴰ, List·Memᴰ·head, List·Memᴰ·tail}
-use mathlib.Core.Logic.{inr}
+use mathlib.Core.Logic.{_⊎_, inl, inr}
 use mathlib.Core.Option.{none}
 use native.Mathlib.Omega.{arith}
 use borrow.Author.Tests.{ltb-true, ltb-false, lt-ltb, le-ltb}
@@ -71,6 +71,27 @@ rank-start s low k (p ∷ ps) (suc j) h hj b =
     let e = starts-rise s (suc (spanEnd s p)) ps j (h .2) (omega arith) in
     let r = rank-start s (suc (spanEnd s p)) k ps j (h .2) (omega arith) b in
     rw (lt-ltb (spanEnd s p) k (omega arith)) (omega arith)
+
+-- Those in front end below the key, and the next one does not.
+rank-front : (s : Store) (k : ℕ) (ps : List ℕ) (j : ℕ) → j < rank s k ps → spanEnd s (getD ps j 0) < k
+unfolding rank
+rank-front s k [] j = λ h. absurd (omega arith)
+rank-front s k (p ∷ ps) zero =
+    cases (ltb (spanEnd s p) k) (λ q. rw q (λ h. ltb-true _ _ q)) (λ q. rw q (λ h. absurd (omega arith)))
+rank-front s k (p ∷ ps) (suc j) =
+    cases (ltb (spanEnd s p) k) (λ q. rw q (λ h. rank-front s k ps j (omega arith))) (λ q. rw q (λ h. absurd (omega arith)))
+
+rank-here : (s : Store) (k : ℕ) (ps : List ℕ) → rank s k ps < length ps → k ≤ spanEnd s (getD ps (rank s k ps) 0)
+unfolding rank
+rank-here s k [] = λ h. absurd (omega arith)
+rank-here s k (p ∷ ps) =
+    cases (ltb (spanEnd s p) k) (λ q. rw q (λ h. rank-here s k ps (omega arith))) (λ q. rw q (λ h. ltb-false _ _ q))
+
+-- A span starts above the end of the one before it.
+starts-behind : (s : Store) (low : ℕ) (ps : List ℕ) (j : ℕ) → Spans s low ps → suc j < length ps → spanEnd s (getD ps j 0) < spanStart s (getD ps (suc j) 0)
+starts-behind s low [] j h hj = absurd (omega arith)
+starts-behind s low (p ∷ ps) zero h hj = starts-rise s (suc (spanEnd s p)) ps 0 (h .2) (omega arith)
+starts-behind s low (p ∷ ps) (suc j) h hj = starts-behind s (suc (spanEnd s p)) ps j (h .2) (omega arith)
 
 -- The least key of a table is in its span.
 least-spanned : (s : Store) (p : ℕ) → Readable s p → (spanStart s p ≤ leastKey (table s p)) × (leastKey (table s p) ≤ spanEnd s p)
@@ -144,3 +165,45 @@ module _ (area : List ℕ) (cards : List (List ℕ)) (items : List ℕ) (b : Byt
 
   pub level-none : (k : ℕ) → length items ≤ rank (shownBy area cards) k items → find k (readsIn (shownBy area cards) items) ≡ none
   level-none k h = ap (find k) (reads-flat (shownBy area cards) items) ∙ reads-none (shownBy area cards) k items all-readable h
+
+  -- ---- by the tables around the rank
+
+  module _ (k : ℕ) where
+    abbrev S : Store
+    S = shownBy area cards
+
+    nothing : (j : ℕ) → j < length items → (k < spanStart S (getD items j 0)) ⊎ (spanEnd S (getD items j 0) < k) → find k (flat (sources S (getD items j 0))) ≡ none
+    nothing j h o = read-outside S (getD items j 0) (readable area cards g (getD items j 0) b (r .listed j h)) k o
+
+    at-rank : (j : ℕ) → rank S k items ≡ j → j < length items → find k (readsIn S items) ≡ find k (flat (sources S (getD items j 0)))
+    at-rank j e h = level-at k (omega arith) ∙ rw e
+
+    -- What is met in the one before is what is sought.
+    pub level-met : (j : ℕ) → j < length items → j ≤ rank S k items → rank S k items ≤ suc j → (find k (flat (sources S (getD items j 0))) ≡ none → ⊥)
+        → find k (readsIn S items) ≡ find k (flat (sources S (getD items j 0)))
+    level-met j h low high some =
+        cases (ltb j (rank S k items))
+        (λ q. absurd (some (nothing j h (inr (rank-front S k items j (ltb-true _ _ q))))))
+        (λ q. at-rank j (omega (arith, ltb-false j (rank S k items) q)) h)
+
+    -- Else it is what the next one has,
+    pub level-next : (j : ℕ) → j < length items → rank S k items ≤ j → j ≤ suc (rank S k items) → (0 < j → find k (flat (sources S (getD items (j - 1) 0))) ≡ none)
+        → find k (readsIn S items) ≡ find k (flat (sources S (getD items j 0)))
+    level-next j h low high missed =
+        cases (ltb (rank S k items) j)
+        (λ q. let lt : rank S k items < j = ltb-true _ _ q in
+        let e : rank S k items ≡ j - 1 = omega arith in
+        let up : suc (j - 1) ≡ j = omega arith in
+        let above = rw up at (starts-behind S 0 items (j - 1) spans (omega arith)) in
+        let here = rw e at (rank-here S k items (omega arith)) in
+        at-rank (j - 1) e (omega arith) ∙ missed (omega arith) ∙ sym (nothing j h (inl (omega (arith, above, here)))))
+        (λ q. at-rank j (omega (arith, ltb-false (rank S k items) j q)) h)
+
+    -- or nothing, where there is no next one.
+    pub level-last : (j : ℕ) → length items ≤ j → rank S k items ≤ j → j ≤ suc (rank S k items) → (0 < j → find k (flat (sources S (getD items (j - 1) 0))) ≡ none)
+        → find k (readsIn S items) ≡ none
+    level-last j h low high missed =
+        cases (ltb (rank S k items) (length items))
+        (λ q. let lt : rank S k items < length items = ltb-true _ _ q in
+        at-rank (j - 1) (omega arith) (omega arith) ∙ missed (omega arith))
+        (λ q. level-none k (ltb-false _ _ q))

@@ -1,6 +1,5 @@
--- `holder` meets its contract. The loop's invariant: the rank is from `low - 1` to `high`, since tables with a least key of at most the key
--- stand in front, but for the last of them, whose span may reach the key.
-use Prim.Native.Nat.{_+_, _-_, _*_, _/_, _≤_, _<_}
+-- `holder` meets its contract: of the tables with a least key of at most the key all are in front, but for the last if its span reaches the key.
+use Prim.Native.Nat.{_-_, _≤_, _<_}
 use mathlib.Core.Path.{_≡_, sym, _∙_}
 use native.Mathlib.Omega.{arith}
 use borrow.Author.Tests.{ltb-true, ltb-false}
@@ -8,178 +7,75 @@ use borrow.Author.Needs.{needs}
 use lib.Dec.{ltb}
 use lib.ListN.{length, getD}
 use Rattle.number.specs.Number.{Bytes}
-use Rattle.table.specs.Limits.{placeSize}
-use Rattle.table.specs.Table.{entries, placeAt}
-use Rattle.table.specs.Search.{leastKey}
-use Rattle.ldc.specs.Store.{spanStart, spanEnd}
+use Rattle.ldc.specs.Store.{spanEnd}
 use Rattle.read.specs.Shown.{shownBy}
-use Rattle.read.specs.Level.{rank}
-use Rattle.read.proofs.Rank.{rank-few, rank-below, rank-above, rank-start, least-within, spans}
+use Rattle.read.proofs.Rank.{rank-below, rank-above, spans}
 use Rattle.levels.proofs.holder.Statement.{statement}
 use Rattle.levels.proofs.holder.Tie as tie
 
-abbrev Inv-loop : tie.InvT-loop
-Inv-loop area cards items key low₀ high₀ low high =
-    (low ≤ high) × (high ≤ length items) × (low ≤ rank (shownBy area cards) (key .value) items + 1) × (rank (shownBy area cards) (key .value) items ≤ high)
+front-requires : tie.Need-front-requires
+front-requires c κs = search needs
 
-abbrev μ-loop : tie.MeasureT-loop
-μ-loop area cards items key low₀ high₀ low high = high - low
+returns : tie.Need-returns
+returns c = omega (arith, c .before .front .ensures .1 .0)
 
-loop-holds : tie.Need-loop-holds Inv-loop μ-loop
-loop-holds c =
-    let a = c .before .before .args in
-    (omega arith, omega arith, omega arith, rank-few (shownBy (a .area .now) (a .cards .now)) (a .key .value) (a .items .now))
-
-sub-mid : tie.Need-sub-mid Inv-loop μ-loop
-sub-mid c = omega arith
-
-add-mid : tie.Need-add-mid Inv-loop μ-loop
-add-mid c = omega (arith, c .before .before .before .before .good)
-
-mul-least : tie.Need-mul-least Inv-loop μ-loop
-mul-least c = omega (arith, c .before .before .before .before .good)
-
-shared-slice-read-least : tie.Need-shared-slice-read-least Inv-loop μ-loop
-shared-slice-read-least c = omega arith
-
-cast-least : tie.Need-cast-least Inv-loop μ-loop
-cast-least c =
-    let l = c .before .before .loop in
-    omega (arith, c .shared-slice-known3 .given (l .low + (l .high - l .low) / 2))
-
-least-requires : tie.Need-least-requires Inv-loop μ-loop
-least-requires c κs =
-    let l = c .before .before .loop in
-    c .before .before .before .before .before .pre .1 .listed (l .low + (l .high - l .low) / 2) (omega arith)
-
-below-requires : tie.Need-below-requires Inv-loop μ-loop
-below-requires c κs = search needs
-
--- What the test of the middle table says.
-tested : (c : tie.After-below Inv-loop μ-loop)
-    → let a = c .before .before .before .before .before .before .before .args in
-    let l = c .before .before .before .before .loop in
-    c .below .result ≡ ltb (a .key .value) (leastKey (entries (placeAt (getD (a .items .now) (l .low + (l .high - l .low) / 2) 0 * placeSize) (a .area .now))))
-tested c = c .below .ensures ∙ rw (c .before .least .ensures)
-
--- Its least key is in its span.
-spanned : (c : tie.After-below Inv-loop μ-loop)
-    → let a = c .before .before .before .before .before .before .before .args in
-    let l = c .before .before .before .before .loop in
-    let p = getD (a .items .now) (l .low + (l .high - l .low) / 2) 0 in
-    (spanStart (shownBy (a .area .now) (a .cards .now)) p ≤ leastKey (entries (placeAt (p * placeSize) (a .area .now))))
-    × (leastKey (entries (placeAt (p * placeSize) (a .area .now))) ≤ spanEnd (shownBy (a .area .now) (a .cards .now)) p)
-spanned c =
-    let b = c .before .before .before .before .before .before .before in
-    let a = b .args in
-    let l = c .before .before .before .before .loop in
-    let bytes : Bytes (a .area .now) = λ i. omega (arith, c .before .before .before .before .before .before .shared-slice-known .given i) in
-    least-within (a .area .now) (a .cards .now) (a .items .now) bytes (b .pre .0) (b .pre .1) (l .low + (l .high - l .low) / 2) (omega arith)
-
-loop-less : tie.Need-loop-less Inv-loop μ-loop
-loop-less c = omega arith
-
-loop-again : tie.Need-loop-again Inv-loop μ-loop
-loop-again c =
-    let a = c .before .before .before .before .before .before .before .before .args in
-    let l = c .before .before .before .before .before .loop in
-    let mid = l .low + (l .high - l .low) / 2 in
-    let lt : a .key .value < leastKey (entries (placeAt (getD (a .items .now) mid 0 * placeSize) (a .area .now))) = ltb-true _ _ (sym (tested (c .before)) ∙ c .if1 .taken) in
-    let r = rank-below (shownBy (a .area .now) (a .cards .now)) (a .key .value) (a .items .now) mid (omega arith) (omega (arith, lt, spanned (c .before) .1)) in
-    (omega arith, omega arith, l .inv .2, r)
-
-add-low : tie.Need-add-low Inv-loop μ-loop
-add-low c = omega (arith, c .before .before .before .before .before .before .before .before .good)
-
-loop-less-2 : tie.Need-loop-less-2 Inv-loop μ-loop
-loop-less-2 c = omega arith
-
-loop-again-2 : tie.Need-loop-again-2 Inv-loop μ-loop
-loop-again-2 c =
-    let b = c .before .before .before .before .before .before .before .before in
-    let a = b .args in
-    let l = c .before .before .before .before .before .loop in
-    let mid = l .low + (l .high - l .low) / 2 in
-    let s = shownBy (a .area .now) (a .cards .now) in
-    let bytes : Bytes (a .area .now) = λ i. omega (arith, c .before .before .before .before .before .before .before .shared-slice-known .given i) in
-    let le : leastKey (entries (placeAt (getD (a .items .now) mid 0 * placeSize) (a .area .now))) ≤ a .key .value = ltb-false _ _ (sym (tested (c .before)) ∙ c .if1 .left) in
-    let r = rank-start s 0 (a .key .value) (a .items .now) mid (spans (a .area .now) (a .cards .now) (a .items .now) bytes (b .pre .0) (b .pre .1)) (omega arith)
-            (omega (arith, le, spanned (c .before) .0)) in
-    (omega arith, l .inv .1, omega (arith, r), l .inv .3)
-
-returns : tie.Need-returns Inv-loop μ-loop
-returns c = omega arith
-
-sub-last : tie.Need-sub-last Inv-loop μ-loop
+sub-last : tie.Need-sub-last
 sub-last c = omega arith
 
-mul-span-end : tie.Need-mul-span-end Inv-loop μ-loop
-mul-span-end c = omega (arith, c .before .before .before .before .before .good)
+mul-span-end : tie.Need-mul-span-end
+mul-span-end c = omega (arith, c .before .before .before .before .good, c .before .front .ensures .0)
 
-shared-slice-read-span-end : tie.Need-shared-slice-read-span-end Inv-loop μ-loop
-shared-slice-read-span-end c = omega arith
+shared-slice-read-span-end : tie.Need-shared-slice-read-span-end
+shared-slice-read-span-end c = omega (arith, c .before .before .front .ensures .0)
 
-cast-span-end : tie.Need-cast-span-end Inv-loop μ-loop
-cast-span-end c = omega (arith, c .shared-slice-known4 .given (c .before .before .before .loop .low - 1))
+cast-span-end : tie.Need-cast-span-end
+cast-span-end c = omega (arith, c .shared-slice-known3 .given (c .before .before .front .result - 1))
 
-span-end-requires : tie.Need-span-end-requires Inv-loop μ-loop
+span-end-requires : tie.Need-span-end-requires
 span-end-requires c κs =
-    (c .before .before .before .before .before .before .pre .0, c .before .before .before .before .before .before .pre .1 .listed (c .before .before .before .loop .low - 1) (omega arith))
+    (c .before .before .before .before .before .pre .0, c .before .before .before .before .before .pre .1 .listed (c .before .before .front .result - 1) (omega (arith, c .before .before .front .ensures .0)))
 
-below-requires-2 : tie.Need-below-requires-2 Inv-loop μ-loop
-below-requires-2 c κs = search needs
+below-requires : tie.Need-below-requires
+below-requires c κs = search needs
 
 -- What the test of the last of them says.
-tested-last : (c : tie.After-below2 Inv-loop μ-loop)
-    → let a = c .before .before .before .before .before .before .before .before .args in
-    c .below2 .result ≡ ltb (spanEnd (shownBy (a .area .now) (a .cards .now)) (getD (a .items .now) (c .before .before .before .before .before .loop .low - 1) 0)) (a .key .value)
-tested-last c = c .below2 .ensures ∙ rw (c .before .span-end .ensures)
+tested : (c : tie.After-below)
+    → let a = c .before .before .before .before .before .before .before .args in
+    c .below .result ≡ ltb (spanEnd (shownBy (a .area .now) (a .cards .now)) (getD (a .items .now) (c .before .before .before .before .front .result - 1) 0)) (a .key .value)
+tested c = c .below .ensures ∙ rw (c .before .span-end .ensures)
 
-returns-2 : tie.Need-returns-2 Inv-loop μ-loop
+returns-2 : tie.Need-returns-2
 returns-2 c =
-    let b = c .before .before .before .before .before .before .before .before .before in
+    let b = c .before .before .before .before .before .before .before .before in
     let a = b .args in
-    let l = c .before .before .before .before .before .before .loop in
+    let f = c .before .before .before .before .before .front in
     let s = shownBy (a .area .now) (a .cards .now) in
-    let bytes : Bytes (a .area .now) = λ i. omega (arith, c .before .before .before .before .before .before .before .before .shared-slice-known .given i) in
-    let lt : spanEnd (shownBy (a .area .now) (a .cards .now)) (getD (a .items .now) (l .low - 1) 0) < a .key .value = ltb-true _ _ (sym (tested-last (c .before)) ∙ c .if3 .taken) in
-    let r = rank-above s 0 (a .key .value) (a .items .now) (l .low - 1) (spans (a .area .now) (a .cards .now) (a .items .now) bytes (b .pre .0) (b .pre .1))
-            (omega arith) lt in
-    omega (arith, r)
+    let bytes : Bytes (a .area .now) = λ i. omega (arith, c .before .before .before .before .before .before .before .shared-slice-known .given i) in
+    let lt : spanEnd s (getD (a .items .now) (f .result - 1) 0) < a .key .value = ltb-true _ _ (sym (tested (c .before)) ∙ c .if2 .taken) in
+    let r = rank-above s 0 (a .key .value) (a .items .now) (f .result - 1) (spans (a .area .now) (a .cards .now) (a .items .now) bytes (b .pre .0) (b .pre .1))
+    (omega (arith, f .ensures .0)) lt in
+    omega (arith, r, f .ensures .1 .0)
 
-returns-3 : tie.Need-returns-3 Inv-loop μ-loop
+returns-3 : tie.Need-returns-3
 returns-3 c =
-    let a = c .before .before .before .before .before .before .before .before .before .args in
-    let l = c .before .before .before .before .before .before .loop in
-    let le : a .key .value ≤ spanEnd (shownBy (a .area .now) (a .cards .now)) (getD (a .items .now) (l .low - 1) 0) = ltb-false _ _ (sym (tested-last (c .before)) ∙ c .if3 .left) in
-    let r = rank-below (shownBy (a .area .now) (a .cards .now)) (a .key .value) (a .items .now) (l .low - 1) (omega arith) le in
-    omega (arith, r)
+    let a = c .before .before .before .before .before .before .before .before .args in
+    let f = c .before .before .before .before .before .front in
+    let s = shownBy (a .area .now) (a .cards .now) in
+    let le : a .key .value ≤ spanEnd s (getD (a .items .now) (f .result - 1) 0) = ltb-false _ _ (sym (tested (c .before)) ∙ c .if2 .left) in
+    let r = rank-below s (a .key .value) (a .items .now) (f .result - 1) (omega (arith, f .ensures .0)) le in
+    omega (arith, r, f .ensures .1 .1)
 
 pub holder-spec : {M : Type 1} → statement M
 holder-spec =
     tie.close
     (tie.spec
-    Inv-loop
-    μ-loop
-    loop-holds
-    sub-mid
-    add-mid
-    mul-least
-    shared-slice-read-least
-    cast-least
-    least-requires
-    below-requires
-    loop-less
-    loop-again
-    add-low
-    loop-less-2
-    loop-again-2
+    front-requires
     returns
     sub-last
     mul-span-end
     shared-slice-read-span-end
     cast-span-end
     span-end-requires
-    below-requires-2
+    below-requires
     returns-2
     returns-3)
