@@ -5,16 +5,24 @@ use std::fmt;
 /// A rule of a sound store.
 #[derive(Clone, Copy, PartialEq, Eq, Debug)]
 pub enum Rule {
+    /// Threshold and cursor.
     A,
+    /// Cards and level lists.
     B,
+    /// Tables in places.
     C,
+    /// The memory table.
     D,
+    /// Links.
     E,
+    /// Frozen places.
     F,
+    /// Order of tables, and parts not in use.
     G,
 }
 
 impl Rule {
+    /// All seven.
     pub const ALL: [Rule; 7] = [Rule::A, Rule::B, Rule::C, Rule::D, Rule::E, Rule::F, Rule::G];
 
     pub(crate) fn of_letter(letter: u64) -> Rule {
@@ -22,6 +30,7 @@ impl Rule {
         found.expect("the library gives the letter of a broken rule")
     }
 
+    /// From A to G.
     pub fn letter(self) -> char {
         char::from(b'A' + self as u8)
     }
@@ -124,9 +133,9 @@ impl fmt::Display for Refused {
 /// Why a request was refused. The store is as it was, and the run went on.
 #[derive(Clone, Copy, PartialEq, Eq, Debug)]
 pub enum Refusal {
-    /// 16.
+    /// 16: a kind that does not exist.
     UnknownKind,
-    /// 17.
+    /// 17: a body whose length is wrong for the kind.
     WrongBody,
     /// 18: a new key, and the memory table holds 16: flush first.
     MemoryFull,
@@ -147,6 +156,17 @@ impl Refusal {
     /// The order's number.
     pub fn number(self) -> u16 {
         16 + self as u16
+    }
+
+    /// Whether a request of this kind can be refused so.
+    pub(crate) fn is_of(self, kind: u16) -> bool {
+        match self {
+            Refusal::UnknownKind => !(1..=7).contains(&kind),
+            Refusal::WrongBody => (1..=7).contains(&kind),
+            Refusal::MemoryFull => matches!(kind, 1 | 2),
+            Refusal::WrongRange => kind == 4,
+            Refusal::NoPlace => matches!(kind, 5 | 6),
+        }
     }
 }
 

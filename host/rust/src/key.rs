@@ -16,7 +16,9 @@ pub struct Key(pub u64);
 const DISTANCE_BITS: u32 = 40;
 
 impl Key {
+    /// The least key, 0. It is a key like any other.
     pub const LEAST: Key = Key(0);
+    /// The greatest key, 2^64 - 1.
     pub const GREATEST: Key = Key(u64::MAX);
 
     /// The key of a line and a distance, or none where one of them has too many bits.
@@ -25,11 +27,12 @@ impl Key {
         fits.then_some(Key(line << DISTANCE_BITS | distance))
     }
 
+    /// The line number.
     pub fn line(self) -> u64 {
         self.0 >> DISTANCE_BITS
     }
 
-    /// In millimetres.
+    /// The distance, in millimetres.
     pub fn distance(self) -> u64 {
         self.0 & ((1 << DISTANCE_BITS) - 1)
     }

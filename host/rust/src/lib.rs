@@ -39,6 +39,8 @@
 //! [`Store::range`] goes over any number of values, [`Store::view`] shows what stands where, and [`Memory::to_bytes`] gives
 //! the bytes to keep a store by. `examples/recorder.rs` puts it together.
 
+#![deny(missing_docs, unsafe_op_in_unsafe_fn)]
+
 mod bytes;
 mod error;
 mod key;
@@ -60,8 +62,14 @@ pub use request::Request;
 pub use store::Store;
 pub use view::{Entry, Link, Table, View};
 
+/// The fewest and the most places of a store.
+pub const PLACES: std::ops::RangeInclusive<usize> = 16..=4096;
+
 /// The longest value.
 pub const VALUE_BYTES: usize = 48;
+
+/// The most values that one scan gives.
+pub const SCAN_VALUES: usize = 16;
 
 /// The longest request list.
 pub const LIST_BYTES: usize = 65_536;

@@ -22,6 +22,7 @@ pub struct List {
 }
 
 impl List {
+    /// A list without requests.
     pub fn new() -> List {
         List::default()
     }
@@ -31,6 +32,7 @@ impl List {
         self.requests
     }
 
+    /// Whether there is no request.
     pub fn is_empty(&self) -> bool {
         self.requests == 0
     }
@@ -62,19 +64,22 @@ impl List {
         Ok(self)
     }
 
+    /// Adds a put of a value of at most 48 bytes.
     pub fn put(&mut self, key: impl Into<Key>, value: &[u8]) -> Result<&mut List, ListError> {
         self.add(&Request::Put(key.into(), value.to_vec()))
     }
 
+    /// Adds a delete.
     pub fn delete(&mut self, key: impl Into<Key>) -> Result<&mut List, ListError> {
         self.add(&Request::Delete(key.into()))
     }
 
+    /// Adds a look-up.
     pub fn look_up(&mut self, key: impl Into<Key>) -> Result<&mut List, ListError> {
         self.add(&Request::LookUp(key.into()))
     }
 
-    /// The first values from low to high, both included.
+    /// Adds a scan of the first 16 or fewer values from low to high, both included.
     pub fn scan(
         &mut self,
         low: impl Into<Key>,
@@ -83,14 +88,17 @@ impl List {
         self.add(&Request::Scan(low.into(), high.into()))
     }
 
+    /// Adds a flush.
     pub fn flush(&mut self) -> Result<&mut List, ListError> {
         self.add(&Request::Flush)
     }
 
+    /// Adds a tidy: one step.
     pub fn tidy(&mut self) -> Result<&mut List, ListError> {
         self.add(&Request::Tidy)
     }
 
+    /// Adds a report.
     pub fn report(&mut self) -> Result<&mut List, ListError> {
         self.add(&Request::Report)
     }

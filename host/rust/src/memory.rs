@@ -1,7 +1,7 @@
 //! The memory that a store lives in, owned or borrowed.
 
 use crate::bytes::{pair, word};
-use crate::Refused;
+use crate::{Refused, PLACES};
 use zilgwern_sys::{Head, Table};
 
 pub use zilgwern_sys::Row;
@@ -44,23 +44,43 @@ pub struct Pieces<'a> {
 /// ```
 #[derive(Clone, PartialEq, Eq, Debug)]
 pub struct Memory {
+    /// P places of 1,024 bytes.
     pub area: Vec<u8>,
+    /// P rows.
     pub cards: Vec<Row>,
+    /// Four lists of P items.
     pub lists: Vec<u16>,
+    /// Threshold, cursor, two marks, four lengths.
     pub head: Head,
+    /// The memory table.
     pub memory: Table,
 }
 
 impl Memory {
     /// Memory for so many places, all zero. This is not a store yet.
+    ///
+    /// # Panics
+    ///
+    /// Where the machine has no such memory; a store has at most 4,096 places.
     pub fn zeroed(places: usize) -> Memory {
+        let each = |size: usize| places.checked_mul(size).expect("no machine has so much memory");
         Memory {
-            area: vec![0; 1024 * places],
+            area: vec![0; each(TABLE_BYTES)],
             cards: vec![[0; 26]; places],
-            lists: vec![0; 4 * places],
+            lists: vec![0; each(LEVELS)],
             head: [0; 10],
             memory: [0; 1024],
         }
+    }
+
+    /// As `zeroed`, but refused by 1 where no store has so many places.
+    pub(crate) fn for_store(places: usize) -> Result<Memory, Refused> {
+        PLACES.contains(&places).then(|| Memory::zeroed(places)).ok_or(Refused::Sizes)
+    }
+
+    /// How many bytes `to_bytes` gives for so many places.
+    pub const fn byte_count(places: usize) -> usize {
+        BYTES_A_PLACE * places + HEAD_BYTES + TABLE_BYTES
     }
 
     /// The plain bytes of what is lent, piece after piece: area, cards, lists, head, memory table; numbers little-endian.
@@ -72,6 +92,7 @@ impl Memory {
     /// store.put(7, b"kept")?;
     /// let bytes = store.memory().to_bytes();
     /// assert_eq!(bytes.len(), 16 * (1024 + 208 + 8) + 80 + 1024);
+    /// assert_eq!(bytes.len(), Memory::byte_count(16));
     /// let mut again = Store::open_owned(Memory::from_bytes(&bytes)?)?;
     /// assert_eq!(again.look_up(7)?.as_deref(), Some(&b"kept"[..]));
     /// assert_eq!(Memory::from_bytes(&bytes[1..]), Err(Refused::Sizes));
@@ -107,6 +128,7 @@ impl Memory {
         })
     }
 
+    /// The pieces for a store to borrow.
     pub fn lend(&mut self) -> Pieces<'_> {
         Pieces {
             area: &mut self.area,

@@ -1,7 +1,7 @@
 //! Replies as types.
 
 use crate::bytes::{pair, take_whole, word};
-use crate::{Key, Refusal, VALUE_BYTES};
+use crate::{Key, Refusal, SCAN_VALUES, VALUE_BYTES};
 
 /// A reply to one request.
 #[derive(Clone, PartialEq, Eq, Debug)]
@@ -18,13 +18,16 @@ pub enum Reply {
     NothingToDo,
     /// What a tidy did.
     Stepped(Stepped),
+    /// The counts of a report.
     Report(Report),
+    /// The request was refused, and the store is as it was.
     Refused(Refusal),
 }
 
 /// The first 16 or fewer values of a range, keys rising.
 #[derive(Clone, PartialEq, Eq, Default, Debug)]
 pub struct Page {
+    /// Each with its key.
     pub values: Vec<(Key, Vec<u8>)>,
     /// Whether there are further ones.
     pub more: bool,
@@ -33,25 +36,33 @@ pub struct Page {
 /// A step of compaction.
 #[derive(Clone, Copy, PartialEq, Eq, Debug)]
 pub enum Step {
+    /// The chosen table joined the next level, which was empty.
     Moved,
+    /// The chosen table was frozen, and tables of the next level have links to it.
     Linked,
+    /// A table was merged with what its links hold.
     Merged,
 }
 
 /// What a tidy did, and on which level the table stood before.
 #[derive(Clone, Copy, PartialEq, Eq, Debug)]
 pub struct Stepped {
+    /// What was done.
     pub step: Step,
+    /// Where the chosen or merged table stood.
     pub level: u16,
 }
 
 /// Counts of a store.
 #[derive(Clone, Copy, PartialEq, Eq, Default, Debug)]
 pub struct Report {
+    /// Free places.
     pub free: u16,
     /// Live tables on levels 0 to 3.
     pub live: [u16; 4],
+    /// Frozen places.
     pub frozen: u16,
+    /// Links on all tables.
     pub links: u16,
     /// Entries of the memory table.
     pub memory: u16,
@@ -86,7 +97,7 @@ impl Reply {
             (0, 1 | 2 | 5, 0) => Some(Reply::Done),
             (64, 3, 0) => Some(Reply::NoValue),
             (65, 5 | 6, 0) => Some(Reply::NothingToDo),
-            (_, _, 0) => Refusal::of(result).map(Reply::Refused),
+            (_, _, 0) => Refusal::of(result).filter(|it| it.is_of(kind)).map(Reply::Refused),
             _ => None,
         }
     }
@@ -101,19 +112,26 @@ impl Page {
             let entry = take_whole(&mut rest, 12).filter(|entry| pair(entry, 2) == 1)?;
             values.push((Key(word(entry, 4)), entry[12..].to_vec()));
         }
-        (more < 2 && values.len() == usize::from(count)).then_some(Page { values, more: more == 1 })
+        let short = values.iter().all(|(_, value)| value.len() <= VALUE_BYTES);
+        let rising = values.is_sorted_by(|(one, _), (next, _)| one < next);
+        // Where there are more, the page is full.
+        let full = if more == 0 { 0..=SCAN_VALUES } else { SCAN_VALUES..=SCAN_VALUES };
+        let whole = values.len() == usize::from(count) && full.contains(&values.len());
+        (more < 2 && whole && short && rising).then_some(Page { values, more: more == 1 })
     }
 }
 
 impl Stepped {
     fn of(body: &[u8]) -> Option<Stepped> {
-        let step = match pair(body, 0) {
-            1 => Step::Moved,
-            2 => Step::Linked,
-            3 => Step::Merged,
+        // Tables go down from levels 0 to 2, and are merged where links hang.
+        let level = pair(body, 2);
+        let step = match (pair(body, 0), level) {
+            (1, 0..=2) => Step::Moved,
+            (2, 0..=2) => Step::Linked,
+            (3, 1..=3) => Step::Merged,
             _ => return None,
         };
-        Some(Stepped { step, level: pair(body, 2) })
+        Some(Stepped { step, level })
     }
 }
 

@@ -1,18 +1,24 @@
 //! Requests as types, and reading them back out of a list's bytes.
 
 use crate::bytes::{pair, take_whole, word};
-use crate::{Key, Refusal, Refused, LIST_BYTES, VALUE_BYTES};
+use crate::{Key, Refusal, Refused, LIST_BYTES, SCAN_VALUES, VALUE_BYTES};
 
 /// A request that is well formed but for the length of a put's value, which [`List`](crate::List) looks at.
 #[derive(Clone, PartialEq, Eq, Debug)]
 pub enum Request {
+    /// The value, of at most 48 bytes, goes under the key.
     Put(Key, Vec<u8>),
+    /// What is under the key goes.
     Delete(Key),
+    /// The value under the key is asked for.
     LookUp(Key),
     /// The first values from low to high, both included.
     Scan(Key, Key),
+    /// The memory table is written to a place.
     Flush,
+    /// One step of compaction is done.
     Tidy,
+    /// Counts are asked for.
     Report,
 }
 
@@ -44,7 +50,7 @@ impl Request {
         6 + match self {
             Request::Put(..) | Request::Delete(_) | Request::Flush => 0,
             Request::LookUp(_) => VALUE_BYTES,
-            Request::Scan(..) => 4 + 16 * (12 + VALUE_BYTES),
+            Request::Scan(..) => 4 + SCAN_VALUES * (12 + VALUE_BYTES),
             Request::Tidy => 4,
             Request::Report => 16,
         }

@@ -15,9 +15,9 @@ pub struct Store<'a> {
 }
 
 impl Store<'static> {
-    /// Makes a new store in memory of its own.
+    /// Makes a new store in memory of its own. No memory is asked for where no store has so many places.
     pub fn owned(places: usize, threshold: u64) -> Result<Store<'static>, Error> {
-        Store::begin(Held::Owned(Box::new(Memory::zeroed(places))), threshold)
+        Store::begin(Held::Owned(Box::new(Memory::for_store(places)?)), threshold)
     }
 
     /// Opens the store in this memory.

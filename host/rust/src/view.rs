@@ -7,19 +7,25 @@ use crate::{Key, Memory};
 /// An entry of a table; a delete mark has no value.
 #[derive(Clone, PartialEq, Eq, Debug)]
 pub struct Entry {
+    /// Of the entry.
     pub key: Key,
+    /// None is a delete mark.
     pub value: Option<Vec<u8>>,
 }
 
 /// A link: a frozen place's entries with keys from low to high, both included, belong to the table that has the link.
 #[derive(Clone, Copy, PartialEq, Eq, Debug)]
 pub struct Link {
+    /// The frozen place.
     pub place: usize,
+    /// The first key of the range.
     pub low: Key,
+    /// The last key of the range.
     pub high: Key,
 }
 
 impl Link {
+    /// Whether the range has this key.
     pub fn holds(&self, key: Key) -> bool {
         (self.low..=self.high).contains(&key)
     }
@@ -28,6 +34,7 @@ impl Link {
 /// A live or frozen table.
 #[derive(Clone, PartialEq, Eq, Debug)]
 pub struct Table {
+    /// Where it stands.
     pub place: usize,
     /// One to sixteen, keys rising.
     pub entries: Vec<Entry>,
@@ -63,8 +70,11 @@ impl Table {
 /// ```
 #[derive(Clone, PartialEq, Eq, Debug)]
 pub struct View {
+    /// The number of places.
     pub places: usize,
+    /// So many links make a merge due.
     pub threshold: u64,
+    /// The place from which the next free one is looked for.
     pub cursor: usize,
     /// Of levels 1 and 2: the key behind which a tidy goes on choosing.
     pub marks: [Option<Key>; 2],
@@ -72,6 +82,7 @@ pub struct View {
     pub levels: [Vec<Table>; LEVELS],
     /// By place.
     pub frozen: Vec<Table>,
+    /// The memory table's, keys rising.
     pub memory: Vec<Entry>,
 }
 

@@ -83,6 +83,17 @@ fn lists_are_judged_as_the_store_judges_them() {
     assert!(broken > 100 && refused > 100, "{broken} {refused}");
 }
 
+/// A scan's reply with values of these lengths under these keys, and no more.
+fn page(values: &[(u8, usize)]) -> Vec<u8> {
+    let entry = |(key, length): &(u8, usize)| {
+        let head = [12 + *length as u8, 0, 1, 0, *key, 0, 0, 0, 0, 0, 0, 0];
+        [&head[..], &vec![b'v'; *length]].concat()
+    };
+    let body: Vec<u8> = values.iter().flat_map(entry).collect();
+    let length = (10 + body.len() as u16).to_le_bytes();
+    [&length[..], &[4, 0, 0, 0, values.len() as u8, 0, 0, 0], &body].concat()
+}
+
 #[test]
 fn bytes_that_are_no_answers_are_told_so() {
     let mut store = Store::owned(16, 4).unwrap();
@@ -105,7 +116,7 @@ fn bytes_that_are_no_answers_are_told_so() {
         wrong += u32::from(!rest.is_empty());
     }
     assert!(wrong > 1000);
-    let wrong: [&[u8]; 10] = [
+    let wrong: [&[u8]; 18] = [
         &[],
         &[6],
         &[6, 0, 1, 0, 0],
@@ -117,10 +128,24 @@ fn bytes_that_are_no_answers_are_told_so() {
         &[10, 0, 4, 0, 0, 0, 1, 0, 0, 0],
         &[10, 0, 4, 0, 0, 0, 0, 0, 2, 0],
         &[10, 0, 6, 0, 0, 0, 4, 0, 0, 0],
+        // A page that is not full and says that there is more; keys that do not rise; a value of 49 bytes.
+        &[10, 0, 4, 0, 0, 0, 0, 0, 1, 0],
+        &page(&[(7, 0), (7, 0)]),
+        &page(&[(7, 49)]),
+        &page(&std::array::from_fn::<_, 17, _>(|key| (key as u8, 0))),
+        // Steps on levels where there are none.
+        &[10, 0, 6, 0, 0, 0, 1, 0, 3, 0],
+        &[10, 0, 6, 0, 0, 0, 3, 0, 0, 0],
+        // Refusals of another kind: a scan by 18, a put by 16.
+        &[6, 0, 4, 0, 18, 0],
+        &[6, 0, 1, 0, 16, 0],
     ];
     for bytes in wrong {
         let mut rest = bytes;
         assert_eq!((Reply::take(&mut rest), rest), (None, bytes));
+    }
+    for good in [page(&[]), page(&[(7, 0), (8, 48)]), vec![6, 0, 99, 0, 16, 0]] {
+        assert!(Reply::take(&mut &good[..]).is_some(), "{good:?}");
     }
 }
 

@@ -84,6 +84,11 @@ fn refusals_are_named() {
         |result: Result<(), Error>| result.map_err(|error| (error.number(), error.to_string()));
     let sizes = number(Store::owned(4097, 4).map(|_| ()));
     assert_eq!(sizes.unwrap_err().0, 1);
+    // So many that there is no such memory, or that the number of bytes has no 64 bits.
+    for places in [0, 15, 1 << 40, 1 << 54, usize::MAX] {
+        let refused = Store::owned(places, 9).err();
+        assert_eq!(refused, Some(Error::Refused(Refused::Sizes)), "{places}");
+    }
     let threshold = number(Store::owned(16, 9).map(|_| ()));
     assert_eq!(threshold.unwrap_err(), (2, "2: threshold outside 1 to 8".into()));
     let mut store = Store::owned(16, 4).unwrap();
