@@ -6,6 +6,7 @@ use crate::options::Options;
 use crate::session::{refusal_words, reply_words};
 use crate::words::{hexadecimal, key_words, value_words};
 use crate::Streams;
+use std::io::Write;
 use zilgwern::{Error, List, Reply, Request};
 
 /// Takes the flag `--hex` off the words.
@@ -15,7 +16,7 @@ fn take_hex<'a>(rest: &[&'a str]) -> (bool, Vec<&'a str>) {
 }
 
 /// All bytes of a file, or of standard input for `-` or nothing.
-fn read(names: &[&str], command: &str, streams: &mut Streams) -> Result<Vec<u8>, Failure> {
+pub fn read(names: &[&str], command: &str, streams: &mut Streams) -> Result<Vec<u8>, Failure> {
     let mut bytes = Vec::new();
     match names {
         [] | ["-"] => {
@@ -71,23 +72,21 @@ pub fn decode(rest: &[&str], options: &Options, streams: &mut Streams) -> Result
         let text = String::from_utf8_lossy(&bytes).into_owned();
         bytes = hexadecimal(&text).map_err(|words| Failure::usage("decode", &words))?;
     }
-    let lines = match what {
-        "list" => list_lines(&bytes, options.whole)?,
-        _ => answer_lines(&bytes, options.whole)?,
-    };
-    for line in lines {
-        writeln!(streams.out, "{line}")?;
+    match what {
+        "list" => write_list(&bytes, options.whole, streams.out),
+        _ => write_answers(&bytes, options.whole, streams.out),
     }
-    Ok(())
 }
 
 /// A line for each request, which `encode` takes back; those that the store will refuse become comments.
-fn list_lines(list: &[u8], whole: bool) -> Result<Vec<String>, Failure> {
-    let line = |(number, request): (usize, Result<Request, _>)| match request {
-        Ok(request) => request_words(&request, whole),
-        Err(refusal) => format!("# request {}: {}", number + 1, refusal_words(refusal)),
-    };
-    Ok(Request::read_list(list)?.into_iter().enumerate().map(line).collect())
+fn write_list(list: &[u8], whole: bool, out: &mut dyn Write) -> Result<(), Failure> {
+    for (number, request) in Request::read_list(list)?.into_iter().enumerate() {
+        match request {
+            Ok(request) => writeln!(out, "{}", request_words(&request, whole))?,
+            Err(refusal) => writeln!(out, "# request {}: {}", number + 1, refusal_words(refusal))?,
+        }
+    }
+    Ok(())
 }
 
 /// The name of a kind of request.
@@ -109,9 +108,9 @@ pub fn request_words(request: &Request, whole: bool) -> String {
     }
 }
 
-fn answer_lines(answers: &[u8], whole: bool) -> Result<Vec<String>, Failure> {
+/// A line for each reply, up to the first byte that is none.
+fn write_answers(answers: &[u8], whole: bool, out: &mut dyn Write) -> Result<(), Failure> {
     let mut rest = answers;
-    let mut lines = Vec::new();
     while !rest.is_empty() {
         let at = answers.len() - rest.len();
         let (kind, reply) = Reply::take(&mut rest).ok_or_else(|| {
@@ -120,7 +119,7 @@ fn answer_lines(answers: &[u8], whole: bool) -> Result<Vec<String>, Failure> {
         // Values of a scan stand below its name.
         let words = reply_words(&reply, whole).replace('\n', "\n  ");
         let gap = if matches!(reply, Reply::Page(_)) { "\n  " } else { " " };
-        lines.push(format!("{}:{gap}{words}", kind_words(kind)));
+        writeln!(out, "{}:{gap}{words}", kind_words(kind))?;
     }
-    Ok(lines)
+    Ok(())
 }

@@ -1,6 +1,6 @@
 //! One line of the prompt or of a script as a command.
 
-use crate::words::{take_key, take_range, take_word, value};
+use crate::words::{take_key, take_put, take_range, take_word};
 use zilgwern::{Key, Request};
 
 /// What a line asks for.
@@ -36,8 +36,8 @@ impl Command {
     fn named(name: &str, rest: &mut &str) -> Result<Command, String> {
         Ok(match name {
             "put" => {
-                let key = take_key(rest)?;
-                Command::Ask(Request::Put(key, value(std::mem::take(rest))?))
+                let (key, value) = take_put(rest)?;
+                Command::Ask(Request::Put(key, value))
             }
             "get" => Command::Ask(Request::LookUp(take_key(rest)?)),
             "del" => Command::Ask(Request::Delete(take_key(rest)?)),

@@ -14,6 +14,8 @@ pub enum Failure {
     Refused(Error),
     /// The same, for what came out of a file or a line of it.
     RefusedIn(String, Error),
+    /// Another failure, and what may help to understand it.
+    Hinted(Box<Failure>, String),
     /// A file can't be read or written.
     File(String),
     /// Nobody reads the output any more, or it can't be written.
@@ -30,11 +32,18 @@ impl Failure {
         Failure::File(format!("{name}: {error}"))
     }
 
+    /// The same failure, explained.
+    pub fn hinted(self, words: String) -> Failure {
+        Failure::Hinted(Box::new(self), words)
+    }
+
     /// The same failure, with where it was met.
     pub fn at(self, place: &str) -> Failure {
         match self {
             Failure::Words(words) => Failure::Words(format!("{place}: {words}")),
+            Failure::Hinted(inner, words) => Failure::Hinted(Box::new(inner.at(place)), words),
             Failure::Refused(error) => Failure::RefusedIn(place.into(), error),
+            Failure::File(words) => Failure::File(format!("{place}: {words}")),
             Failure::RefusedIn(inner, error) => {
                 Failure::RefusedIn(format!("{place}: {inner}"), error)
             }
@@ -45,7 +54,7 @@ impl Failure {
     /// As the help text lists them.
     pub fn status(&self) -> u8 {
         match self {
-            Failure::Output(error) if error.kind() == ErrorKind::BrokenPipe => 0,
+            Failure::Hinted(inner, _) => inner.status(),
             Failure::NoValue => 1,
             Failure::Words(_) => 2,
             Failure::Refused(_) | Failure::RefusedIn(..) => 3,
@@ -64,6 +73,11 @@ impl fmt::Display for Failure {
                 write!(out, "{place}: ")?;
                 refusal(out, error)
             }
+            Failure::Hinted(inner, words) => {
+                write!(out, "{inner}")?;
+                paragraph(out, words)
+            }
+            // Who reads has heard enough; the exit status alone says that there was more.
             Failure::Output(error) if error.kind() == ErrorKind::BrokenPipe => Ok(()),
             Failure::Output(error) => write!(out, "the output can't be written: {error}"),
         }
@@ -75,17 +89,13 @@ impl fmt::Display for Failure {
 fn refusal(out: &mut fmt::Formatter, error: &Error) -> fmt::Result {
     write!(out, "refused, {error}")?;
     match error {
-        Error::Request(Refusal::MemoryFull) => {
-            write!(
-                out,
-                "\n  `flush` writes the memory table to a place and makes room for new keys."
-            )
-        }
+        Error::Request(Refusal::MemoryFull) => paragraph(
+            out,
+            "`flush` writes the memory table to a place and makes room for new keys.",
+        ),
         Error::Request(Refusal::NoPlace) => {
-            write!(
-                out,
-                "\n  `tidy all` may free places. If it is refused too, the store is too small."
-            )
+            let words = "`tidy all` may free places. If it is refused too, the store is too small.";
+            paragraph(out, words)
         }
         Error::Refused(Refused::NotSound(rule)) => {
             let (letter, text) = (rule.letter(), rule.explanation());
@@ -96,12 +106,12 @@ fn refusal(out: &mut fmt::Formatter, error: &Error) -> fmt::Result {
     }
 }
 
-/// Words below a message, indented, in lines of at most 100 columns.
+/// Words below a message, indented, in lines of at most 80 columns.
 fn paragraph(out: &mut fmt::Formatter, text: &str) -> fmt::Result {
     let mut column = usize::MAX;
     for word in text.split(' ') {
         let length = word.chars().count();
-        if column.saturating_add(1 + length) > 100 {
+        if column.saturating_add(1 + length) > 80 {
             write!(out, "\n  {word}")?;
             column = 2 + length;
         } else {

@@ -34,138 +34,215 @@ Others:
   help [COMMAND]       this text, or more on a command
 
 Options, before the command:
-  -s, --store FILE     the file that keeps the store; without it, a new store that is forgotten at the end
+  -s, --store FILE     the file that keeps the store; without it, a new store
+                       that is forgotten at the end
       --places N       places of a new store, 16 to 4096 (32)
       --threshold N    links that make a merge due in a new store, 1 to 8 (4)
       --whole-keys     print keys as whole numbers
   -h, --help           this text, or that of the command
   -V, --version        the version
 
-KEY is a line and metres with a point (12 3.450), a whole number (13194139536762, 0xC0000000D7A), `first` or `last`.
-RANGE is nothing (all keys), KEY KEY, LINE METRES METRES (12 3.000 4.000), or `line LINE`; both ends are included.
-VALUE is text to the end of the line, text between double quotes, or hex:DIGITS; at most 48 bytes.
+KEY is a line and metres with a point (12 3.450), a whole number
+    (13194139536762, 0xC0000000D7A), `first` or `last`.
+RANGE is nothing (all keys), KEY KEY, LINE METRES METRES (12 3.000 4.000), or
+    `line LINE`; both ends are included.
+VALUE is text to the end of the line, text between double quotes, or
+    hex:DIGITS; at most 48 bytes.
 
-Exit status: 0 done, 1 `get` found no value, 2 words not understood, 3 refused by the store (the message says the number),
-4 a file can't be read or written.
+Exit status: 0 done, 1 `get` found no value, 2 words not understood, 3 refused
+by the store (the message says the number), 4 a file or the output can't be
+read or written.
 ";
 
 const COMMANDS: [(&str, &str); 18] = [
-    ("put", "\
+    (
+        "put",
+        "\
 put KEY VALUE
 
-Puts a value of at most 48 bytes under a key, in place of an earlier one. Refused by 18 where the memory table holds 16 keys
-and this is a new one: `flush` first. A word with a point behind a whole number is taken for metres; put quotes around a
-value that begins with one.
+Puts a value of at most 48 bytes under a key, in place of an earlier one.
+Refused by 18 where the memory table holds 16 keys and this is a new one:
+`flush` first.
+
+A word with a point behind a whole number is taken for metres. Put double
+quotes around a value that begins with a number or is empty; in a shell, single
+quotes around these: surveyctl put 5 '\"3.450\"'.
 
   put 12 3.450 crack
   put 5 \"3.450\"
+  put 5 \"20 % root\"
   put 0x50 hex:00ff41
-"),
-    ("get", "\
+",
+    ),
+    (
+        "get",
+        "\
 get KEY
 
 Prints the value under a key; `no value` and exit status 1 if there is none.
 
   get 12 3.450
-"),
-    ("del", "\
+",
+    ),
+    (
+        "del",
+        "\
 del KEY
 
 Takes the value under a key away, if there is one.
 
   del 12 3.450
-"),
-    ("scan", "\
+",
+    ),
+    (
+        "scan",
+        "\
 scan [RANGE]
 
-Prints all values of a range, keys rising, sixteen at a time asked of the store. In `encode` it is one request, which gives
-the first 16. Refused by 19 where the first end is above the last.
+Prints all values of a range, keys rising, sixteen at a time asked of the
+store. In `encode` it is one request, which gives the first 16. Refused by 19
+where the first end is above the last.
 
   scan
   scan 12 3.000 4.000
   scan line 12
   scan 12 3.000 13 0.500
   scan first 99
-"),
-    ("flush", "\
+",
+    ),
+    (
+        "flush",
+        "\
 flush
 
-Writes the memory table to a place, newest on level 0, and empties it. Refused by 20 where no place is free.
-"),
-    ("tidy", "\
+Writes the memory table to a place, newest on level 0, and empties it. Refused
+by 20 where no place is free.
+",
+    ),
+    (
+        "tidy",
+        "\
 tidy
 tidy all
 
-One step of compaction: a table moved down, linked down, or merged; the level is the one that it stood on. `tidy all` goes on
-until there is nothing to do. Refused by 20 where a merge wants more places than are free.
-"),
-    ("report", "\
+One step of compaction: a table moved down, linked down, or merged; the level
+is the one that it stood on. `tidy all` goes on until there is nothing to do.
+Refused by 20 where a merge wants more places than are free.
+",
+    ),
+    (
+        "report",
+        "\
 report
 
-Counts: free places, live tables on levels 0 to 3, frozen places, links, entries of the memory table.
-"),
-    ("check", "\
+Counts: free places, live tables on levels 0 to 3, frozen places, links,
+entries of the memory table.
+",
+    ),
+    (
+        "check",
+        "\
 check
 
 Prints `sound`, or the letter and the text of a rule that is broken.
-"),
-    ("show", "\
+",
+    ),
+    (
+        "show",
+        "\
 show [--ascii] [--svg FILE]
 
-Draws the levels, the tables with their spans of keys, links and frozen places; with --svg as a picture into FILE. Bars go by
-the order of the keys that are there, each key as wide as the next. At the prompt: `show` alone.
+Draws the levels, the tables with their spans of keys, links and frozen places;
+with --svg as a picture into FILE (- is standard output). Bars go by the order
+of the keys that are there, each key as wide as the next. At the prompt and in
+scripts: `show` alone.
 
   surveyctl --store van.store show --svg van.svg
-"),
-    ("new", "\
+",
+    ),
+    (
+        "new",
+        "\
 surveyctl --store FILE [--places N] [--threshold N] new
 
-Makes a store in a file that does not exist yet. The file is the plain bytes of what is lent and nothing else: area, cards,
-level lists, head, memory table; numbers little-endian. Each place takes 1,240 bytes of it, the rest 1,104.
+Makes a store in a file that does not exist yet. The file is the plain bytes of
+what is lent and nothing else: area, cards, level lists, head, memory table;
+numbers little-endian. Each place takes 1,240 bytes of it, the rest 1,104.
 
   surveyctl --store van.store --places 64 --threshold 2 new
-"),
-    ("prompt", "\
+",
+    ),
+    (
+        "prompt",
+        "\
 surveyctl [OPTIONS] prompt
 
-Asks for commands one by one. A file that --store names is kept after each. `quit` or the end of the input ends it.
-"),
-    ("script", "\
+Asks for commands one by one. A file that --store names is written after each
+that changes the store, and only then is it answered. `quit` or the end of the
+input ends it.
+",
+    ),
+    (
+        "script",
+        "\
 surveyctl [OPTIONS] script [-k | --keep-going] [FILE]
 
-Runs the commands in FILE, or in standard input, line by line; empty lines and lines that begin with # are passed over. It stops
-at the first line that is refused or not understood; with -k it goes on, and exits with status 2 at the end. What was done
-before is kept in either case.
-"),
-    ("replay", "\
+Runs the commands in FILE, or in standard input, line by line; empty lines and
+lines that begin with # are passed over. It stops at the first line that is
+refused or not understood; with -k it goes on, and exits with status 2 at the
+end. What was done before is kept in either case: the file that --store names
+is written once, at the end.
+",
+    ),
+    (
+        "replay",
+        "\
 surveyctl [OPTIONS] replay [--progress] [--answers FILE] LIST
 
-Runs the requests of a binary file. It may be longer than one list: it is cut into lists of at most 65,536 bytes. A file that
-is broken is refused before anything is run. Progress is told on a terminal, or in any case with --progress.
-"),
-    ("encode", "\
+Runs the requests of a binary file (- is standard input). It may be longer than
+one list: it is cut into lists of at most 65,536 bytes. A file that is broken
+is refused before anything is run. Progress is told on a terminal, or in any
+case with --progress.
+",
+    ),
+    (
+        "encode",
+        "\
 surveyctl encode [--hex] [FILE] > LIST
 
-Writes the commands of a script as a binary list, as the program `survey` reads it; with --hex in hexadecimal. `tidy all`,
-`check` and `show` are no requests and have no place in a list.
-"),
-    ("decode", "\
+Writes the commands of a script as a binary list, as the program `survey` reads
+it; with --hex in hexadecimal. `tidy all`, `check` and `show` are no requests
+and have no place in a list.
+",
+    ),
+    (
+        "decode",
+        "\
 surveyctl decode [--hex] list [FILE]
 surveyctl decode [--hex] answers [FILE]
 
-Prints a binary list as commands, which `encode` makes into the same list again, or the answers of the program `survey` in
-words. Requests that the store will refuse for their kind or length become comments. With --hex the input is hexadecimal.
-"),
-    ("help", "\
+Prints a binary list as commands, which `encode` makes into the same list
+again, or the answers of the program `survey` in words. Requests that the store
+will refuse for their kind or length become comments. With --hex the input is
+hexadecimal.
+",
+    ),
+    (
+        "help",
+        "\
 help [COMMAND]
 
 Lists the commands, or says more on one.
-"),
-    ("quit", "\
+",
+    ),
+    (
+        "quit",
+        "\
 quit
 
 Ends the prompt or the script; so does `exit`.
-"),
+",
+    ),
     ("", ALL),
 ];
 

@@ -5,7 +5,7 @@ use crate::failure::Failure;
 use crate::options::Options;
 use crate::session::Session;
 use crate::{help, Streams};
-use std::io::BufRead;
+use std::io::{BufRead, Write};
 
 /// The words of the command line as one command; without any, a prompt or a script from standard input.
 pub fn one(options: &Options, streams: &mut Streams) -> Result<(), Failure> {
@@ -17,16 +17,28 @@ pub fn one(options: &Options, streams: &mut Streams) -> Result<(), Failure> {
         };
     }
     // Known words first: a store is not opened for words that mean nothing.
-    let words = [std::slice::from_ref(&options.command), &options.rest].concat().join(" ");
-    let Some(command) = Command::of(&words).map_err(hinted)? else { return Ok(()) };
+    let Some(command) = Command::of(&line_of(options)).map_err(hinted)? else { return Ok(()) };
     let mut session = Session::begin(options)?;
     if command.changes() && !session.is_kept() {
         let words = "no --store FILE is named, so this is done on a new store and then forgotten";
         writeln!(streams.err, "surveyctl: {words}")?;
     }
-    let done = session.perform(command, streams.out);
+    let mut answer = Vec::new();
+    let done = session.perform(command, &mut answer);
+    // What is not kept is not told as done.
     session.keep()?;
+    streams.out.write_all(&answer)?;
     done
+}
+
+/// The words of the command line as one line. A last word without letters is an empty value, which has quotes in a line.
+fn line_of(options: &Options) -> String {
+    let mut words = [std::slice::from_ref(&options.command), &options.rest].concat();
+    match words.last_mut() {
+        Some(last) if last.is_empty() && options.command == "put" => *last = "\"\"".into(),
+        _ => {}
+    }
+    words.join(" ")
 }
 
 fn hinted(words: String) -> Failure {
@@ -56,41 +68,53 @@ fn lines(
     input: &mut dyn BufRead,
     name: &str,
     keep_going: bool,
-    out: &mut dyn std::io::Write,
-    err: &mut dyn std::io::Write,
+    out: &mut dyn Write,
+    err: &mut dyn Write,
 ) -> Result<(), Failure> {
     let mut result = Ok(());
-    for (number, line) in input.lines().enumerate() {
-        let place = format!("{name}, line {}", number + 1);
-        let line = line.map_err(|error| Failure::file(&place, error))?;
-        match obey_line(&mut session, &line, out) {
+    for number in 1.. {
+        match next_line(input).and_then(|line| obey_line(&mut session, line, out)) {
             Ok(true) => break,
             // A look-up without a value has been answered; it is no reason to stop.
             Ok(false) | Err(Failure::NoValue) => {}
-            Err(failure @ Failure::Output(_)) => return Err(failure),
-            Err(failure) if keep_going => {
-                out.flush()?;
-                writeln!(err, "surveyctl: {}", failure.at(&place))?;
-                result = Err(Failure::Words("some lines failed".into()));
-            }
             Err(failure) => {
-                result = Err(failure.at(&place));
-                break;
+                let fatal = matches!(failure, Failure::Output(_) | Failure::File(_));
+                let failure = failure.at(&format!("{name}, line {number}"));
+                if fatal || !keep_going {
+                    result = Err(failure);
+                    break;
+                }
+                // Where these can't be written, the next answer can't be either.
+                let _ = out.flush().and_then(|()| writeln!(err, "surveyctl: {failure}"));
+                result = Err(Failure::Words("some lines failed".into()));
             }
         }
     }
-    // What was done before a line that failed is done.
+    // What was done before a line that failed is done, whatever the failure.
     session.keep()?;
     result
 }
 
-/// Does one line; true if it asks to end.
+/// The next line of the input, or none at its end.
+fn next_line(input: &mut dyn BufRead) -> Result<Option<String>, Failure> {
+    let mut bytes = Vec::new();
+    let read = input.read_until(b'\n', &mut bytes);
+    read.map_err(|error| Failure::File(format!("the input can't be read: {error}")))?;
+    if bytes.is_empty() {
+        return Ok(None);
+    }
+    let words = "these bytes are no text (UTF-8); a value of any bytes is hex:DIGITS";
+    String::from_utf8(bytes).map(Some).map_err(|_| Failure::Words(words.into()))
+}
+
+/// Does one line; true at the end of the input and if the line asks to end.
 fn obey_line(
     session: &mut Session,
-    line: &str,
-    out: &mut dyn std::io::Write,
+    line: Option<String>,
+    out: &mut dyn Write,
 ) -> Result<bool, Failure> {
-    let Some(command) = Command::of(line).map_err(Failure::Words)? else { return Ok(false) };
+    let Some(line) = line else { return Ok(true) };
+    let Some(command) = Command::of(&line).map_err(Failure::Words)? else { return Ok(false) };
     let ends = command == Command::Quit;
     session.perform(command, out)?;
     Ok(ends)
@@ -109,21 +133,21 @@ pub fn prompt(mut session: Session, streams: &mut Streams) -> Result<(), Failure
             write!(streams.out, "survey> ")?;
             streams.out.flush()?;
         }
-        let mut line = String::new();
-        if streams.input.read_line(&mut line)? == 0 {
-            if streams.asks {
-                writeln!(streams.out)?;
-            }
-            return Ok(());
+        let line = next_line(streams.input);
+        if streams.asks && matches!(line, Ok(None)) {
+            writeln!(streams.out)?;
         }
-        let ended = obey_line(&mut session, &line, streams.out);
+        let mut answer = Vec::new();
+        let ended = line.and_then(|line| obey_line(&mut session, line, &mut answer));
+        // What is not kept is not told as done.
+        session.keep()?;
+        streams.out.write_all(&answer)?;
         // Another program may type the lines and wait for the answer.
         streams.out.flush()?;
-        session.keep()?;
         match ended {
             Ok(true) => return Ok(()),
             Ok(false) | Err(Failure::NoValue) => {}
-            Err(failure @ Failure::Output(_)) => return Err(failure),
+            Err(failure @ (Failure::Output(_) | Failure::File(_))) => return Err(failure),
             Err(failure) => writeln!(streams.err, "{failure}")?,
         }
     }

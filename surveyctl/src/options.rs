@@ -18,6 +18,9 @@ pub struct Options {
     pub rest: Vec<String>,
 }
 
+/// Long options that have a word behind them.
+const VALUED: [&str; 3] = ["--store", "--places", "--threshold"];
+
 impl Options {
     pub fn of(words: &[String]) -> Result<Options, Failure> {
         let mut options = Options {
@@ -43,6 +46,10 @@ impl Options {
             };
             let mut value = || joined.clone().or_else(|| words.next().cloned());
             options.take(name, &mut value)?;
+            if joined.is_some() && !VALUED.contains(&name) {
+                let words = format!("{name}: takes no value; see `surveyctl --help`");
+                return Err(Failure::Words(words));
+            }
         }
         Ok(options)
     }

@@ -1,6 +1,8 @@
 //! `replay`: runs a file of requests, of any length, and says on the way how far it is.
 
+use crate::codec::read;
 use crate::failure::Failure;
+use crate::file::same_file;
 use crate::session::{refusal_words, Session};
 use crate::Streams;
 use std::collections::BTreeMap;
@@ -16,7 +18,14 @@ const PAUSE: Duration = Duration::from_millis(200);
 
 pub fn replay(mut session: Session, rest: &[&str], streams: &mut Streams) -> Result<(), Failure> {
     let (name, answers, progress) = words(rest)?;
-    let requests = std::fs::read(name).map_err(|error| Failure::file(name, error))?;
+    if let Some(answers) = answers {
+        session.spare(answers)?;
+        if same_file(name, answers) {
+            let words = format!("{answers}: is the list itself; name another for the answers");
+            return Err(Failure::Words(words));
+        }
+    }
+    let requests = read(&[name], "replay", streams)?;
     // All of it is looked at before any of it is run.
     let ends = ends(&requests).map_err(|failure| failure.at(name))?;
     let mut file = match answers {
@@ -35,12 +44,14 @@ pub fn replay(mut session: Session, rest: &[&str], streams: &mut Streams) -> Res
         done += served;
         count(&buffer[..written], &mut results);
         if let Some((name, file)) = &mut file {
-            let wrote = file.write_all(&buffer[..written]);
-            wrote.map_err(|error| Failure::file(name, error))?;
+            if let Err(error) = file.write_all(&buffer[..written]) {
+                progress.end(streams.err);
+                return Err(Failure::file(name, format!("{error}; nothing is kept")));
+            }
         }
-        progress.tell(done, streams.err)?;
+        progress.tell(done, streams.err);
     }
-    progress.end(streams.err)?;
+    progress.end(streams.err);
     session.keep()?;
     writeln!(streams.out, "{done} requests served")?;
     for (result, times) in results {
@@ -126,21 +137,21 @@ impl Progress {
         Progress { told, all, began: Instant::now(), last: None }
     }
 
-    fn tell(&mut self, done: usize, err: &mut dyn Write) -> Result<(), Failure> {
+    /// Who does not want to hear it is no reason to stop.
+    fn tell(&mut self, done: usize, err: &mut dyn Write) {
         let soon = self.last.is_some_and(|last| last.elapsed() < PAUSE) && done < self.all;
         if !self.told || soon {
-            return Ok(());
+            return;
         }
         self.last = Some(Instant::now());
         let (seconds, percent) = (self.began.elapsed().as_secs_f64(), 100 * done / self.all);
-        write!(err, "\r{percent:>3} %  {done} of {} requests, {seconds:.1} s", self.all)?;
-        Ok(err.flush()?)
+        let _ = write!(err, "\r{percent:>3} %  {done} of {} requests, {seconds:.1} s", self.all);
+        let _ = err.flush();
     }
 
-    fn end(&self, err: &mut dyn Write) -> Result<(), Failure> {
+    fn end(&self, err: &mut dyn Write) {
         if self.told && self.last.is_some() {
-            writeln!(err)?;
+            let _ = writeln!(err);
         }
-        Ok(())
     }
 }

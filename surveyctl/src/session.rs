@@ -39,6 +39,11 @@ impl Session {
         self.file.as_mut().map_or(Ok(()), |file| file.keep(&self.store))
     }
 
+    /// Refuses to write something else over the store's file.
+    pub fn spare(&self, name: &str) -> Result<(), Failure> {
+        self.file.as_ref().map_or(Ok(()), |file| file.spare(name))
+    }
+
     /// Does a command and prints what came of it.
     pub fn perform(&mut self, command: Command, out: &mut dyn Write) -> Result<(), Failure> {
         match command {

@@ -15,10 +15,28 @@ fn next_word(rest: &str) -> &str {
     take_word(&mut { rest })
 }
 
+/// Whether a word is digits and nothing else.
+fn digits(word: &str) -> bool {
+    !word.is_empty() && word.bytes().all(|byte| byte.is_ascii_digit())
+}
+
 /// Whether a word is written as metres are: digits, a point, digits.
 fn looks_like_metres(word: &str) -> bool {
-    let digits = |part: &str| !part.is_empty() && part.bytes().all(|byte| byte.is_ascii_digit());
     word.split_once('.').is_some_and(|(whole, part)| digits(whole) && digits(part))
+}
+
+/// Whether a word may be meant as metres and is not written so: -3.450, 3,450, .5, 3.
+fn meant_as_metres(word: &str) -> bool {
+    let sign = |byte: u8| byte.is_ascii_digit() || b".,+-".contains(&byte);
+    let point = word.contains(['.', ',']) && word.bytes().any(|byte| byte.is_ascii_digit());
+    point && word.bytes().all(sign) && !looks_like_metres(word)
+}
+
+/// Whether a value that begins so could be taken for metres and a value.
+fn may_begin_with_metres(text: &str) -> bool {
+    let mut rest = text;
+    let word = take_word(&mut rest);
+    looks_like_metres(word) || meant_as_metres(word) || (digits(word) && !rest.is_empty())
 }
 
 /// Metres with up to three digits behind the point, as millimetres.
@@ -34,11 +52,13 @@ fn millimetres(word: &str) -> Result<u64, String> {
 /// A plain number, decimal or hexadecimal behind 0x.
 fn number(word: &str) -> Result<u64, String> {
     let parsed = match word.strip_prefix("0x") {
-        Some(digits) => u64::from_str_radix(digits, 16),
-        None => word.parse(),
+        Some(digits) if !digits.starts_with('+') => u64::from_str_radix(digits, 16).ok(),
+        None if digits(word) => word.parse().ok(),
+        _ => None,
     };
-    parsed.map_err(|_| match word {
+    parsed.ok_or_else(|| match word {
         "" => "a key is missing".into(),
+        _ if digits(word) => format!("{word}: too large; keys go to 18446744073709551615"),
         _ => format!("{word}: not a key; a key is LINE METRES (12 3.450) or a whole number"),
     })
 }
@@ -59,10 +79,31 @@ pub fn take_key(rest: &mut &str) -> Result<Key, String> {
         _ => {}
     }
     let number = number(word)?;
-    if looks_like_metres(next_word(rest)) {
-        return at(number, take_word(rest));
+    match next_word(rest) {
+        metres if looks_like_metres(metres) => at(number, take_word(rest)),
+        other if meant_as_metres(other) => Err(format!(
+            "{other}: metres are written 3.450 or 0.5; a value that begins so stands in double quotes"
+        )),
+        _ => Ok(Key(number)),
     }
-    Ok(Key(number))
+}
+
+/// Takes a key and a value off a line. What may be metres or a value is neither.
+pub fn take_put(rest: &mut &str) -> Result<(Key, Vec<u8>), String> {
+    let line = *rest;
+    let key = take_key(rest)?;
+    let text = std::mem::take(rest);
+    let whole = key_is_one_number(&line[..line.len() - text.len()]);
+    if whole && may_begin_with_metres(text) {
+        let word = next_word(text);
+        return Err(format!("{word}: metres ({word}.0), or a value (put it in double quotes)?"));
+    }
+    Ok((key, value(text)?))
+}
+
+/// Whether a key was given as one whole number, behind which metres could stand.
+fn key_is_one_number(words: &str) -> bool {
+    number(words.trim()).is_ok()
 }
 
 /// Takes the two ends of a range off a line.
@@ -76,7 +117,12 @@ pub fn take_range(rest: &mut &str) -> Result<(Key, Key), String> {
         }
         _ => {}
     }
+    let line = *rest;
     let low = take_key(rest)?;
+    if rest.is_empty() {
+        let line = next_word(line);
+        return Err(format!("a range has two ends; all of a line is `scan line {line}`"));
+    }
     if looks_like_metres(next_word(rest)) {
         return Ok((low, at(low.line(), take_word(rest))?));
     }
@@ -84,7 +130,7 @@ pub fn take_range(rest: &mut &str) -> Result<(Key, Key), String> {
 }
 
 /// A value: `hex:` and digits, text between double quotes, or the rest of the line as it stands.
-pub fn value(rest: &str) -> Result<Vec<u8>, String> {
+fn value(rest: &str) -> Result<Vec<u8>, String> {
     let rest = rest.trim();
     if rest.is_empty() {
         return Err("a value is missing; an empty one is \"\"".into());
@@ -136,6 +182,15 @@ pub fn key_words(key: Key, whole: bool) -> String {
     }
 }
 
+/// A range as it is printed, as short as a scan takes it: 12 3.000 to 4.000.
+pub fn range_words(low: Key, high: Key, whole: bool) -> String {
+    let (from, to) = (key_words(low, whole), key_words(high, whole));
+    match to.strip_prefix(&format!("{} ", low.line())) {
+        Some(metres) if from.contains(' ') => format!("{from} to {metres}"),
+        _ => format!("{from} to {to}"),
+    }
+}
+
 /// A value as it is printed: as it stands where that is read back alike, else between quotes, else in hexadecimal.
 pub fn value_words(value: &[u8]) -> String {
     let Ok(text) = std::str::from_utf8(value) else { return hex_words(value) };
@@ -146,7 +201,7 @@ pub fn value_words(value: &[u8]) -> String {
         && text.trim() == text
         && !text.starts_with('"')
         && !text.starts_with("hex:")
-        && !looks_like_metres(next_word(text));
+        && !may_begin_with_metres(text);
     if plain {
         return text.into();
     }

@@ -24,7 +24,7 @@ fn fails(folder: &Folder, words: &[&str], status: i32, says: &str) {
 #[test]
 fn words_that_mean_nothing_have_status_2() {
     let folder = with_store("status_2");
-    let cases: [(&[&str], &str); 14] = [
+    let cases: [(&[&str], &str); 24] = [
         (&["frob"], "frob: no such command; see `surveyctl --help`"),
         (&["--frob"], "--frob: no such option"),
         (&["--places"], "--places: a word is missing behind it"),
@@ -39,6 +39,17 @@ fn words_that_mean_nothing_have_status_2() {
         (&["decode"], "say whether it is a `list` or `answers`"),
         (&["replay"], "name the file of requests"),
         (&["prompt", "x"], "takes no words behind it"),
+        (&["--whole-keys=1", "scan"], "--whole-keys: takes no value"),
+        (&["--help=put"], "--help: takes no value"),
+        (&["scan", "12"], "a range has two ends; all of a line is `scan line 12`"),
+        (&["get", "18446744073709551616"], "too large"),
+        // Metres that are not written as such are no beginning of a value.
+        (&["-s", "s", "put", "12", "-3.450", "crack"], "-3.450: metres are written 3.450 or 0.5"),
+        (&["-s", "s", "put", "12", "3,450", "crack"], "3,450: metres are written"),
+        (&["-s", "s", "put", "12", "3.", "crack"], "3.: metres are written"),
+        (&["-s", "s", "put", "12", "3", "crack"], "3: metres (3.0), or a value"),
+        (&["-s", "s", "get", "12", "-3.450"], "-3.450: metres are written"),
+        (&["-s", "s", "put", "12", "1099511627.776", "x"], "metres to 1099511627.775"),
     ];
     for (words, says) in cases {
         fails(&folder, words, 2, says);
@@ -49,6 +60,8 @@ fn words_that_mean_nothing_have_status_2() {
 fn refusals_have_status_3_and_their_number() {
     let folder = with_store("status_3");
     fails(&folder, &["--places", "15", "report"], 3, "refused, 1: ");
+    fails(&folder, &["--places", "100000000000", "report"], 3, "refused, 1: ");
+    fails(&folder, &["--places", "18446744073709551615", "report"], 3, "refused, 1: ");
     fails(&folder, &["--threshold", "9", "report"], 3, "refused, 2: threshold outside 1 to 8");
     fails(&folder, &["--store", "t", "--places", "4097", "new"], 3, "refused, 1: ");
     assert!(!folder.path("t").exists());
@@ -100,6 +113,9 @@ fn what_is_done_is_kept_in_the_file_and_nowhere_else() {
         assert_eq!(folder.read("s"), flushed, "{words:?}");
     }
     assert_eq!(std::fs::read_dir(folder.path(".")).unwrap().count(), 1, "a file was left");
+    // The shell takes the quotes from an empty value.
+    assert_eq!(folder.done(&["-s", "s", "put", "7", ""]), "done\n");
+    assert_eq!(folder.done(&["-s", "s", "get", "7"]), "\"\"\n");
     // Without a file nothing is kept, and that is said.
     let Came { status, out, err } = folder.call(&["put", "5", "x"]);
     assert_eq!((status, out.as_str()), (0, "done\n"));
@@ -161,4 +177,51 @@ fn who_stops_reading_gets_no_complaint() {
     let scans = "scan\n".repeat(500);
     folder.write("scans", scans);
     assert_eq!(folder.shell("surveyctl -s s script scans | head -n 1").lines().count(), 1);
+}
+
+/// What was done before nobody read any more is kept, and the status says that it was not all.
+#[test]
+fn a_script_whose_reader_is_gone_keeps_what_it_did() {
+    let folder = with_store("gone");
+    let lines = "report\n".repeat(20_000);
+    folder.write("lines", format!("put 5 kept\n{lines}put 6 never\n"));
+    for call in ["script lines", "prompt < lines"] {
+        let line = format!("{{ surveyctl -s s {call}; echo status $? >&2; }} | head -n 1");
+        let came = folder.shell(&line);
+        assert!(came.contains("done\n") && came.contains("status 4\n"), "{came}");
+        assert_eq!(came.lines().count(), 2, "{came}");
+        assert_eq!(folder.done(&["-s", "s", "scan"]), "5  kept\n");
+        folder.done(&["-s", "s", "del", "5"]);
+    }
+}
+
+#[test]
+fn bytes_that_are_no_text_are_told_so() {
+    let folder = with_store("no_text");
+    let input = b"put 5 a\n\xff\xfe\nput 6 b\n";
+    let Came { status, out, err } = folder.call_with(&["-s", "s", "script"], input);
+    assert_eq!((status, out.as_str()), (2, "done\n"));
+    assert!(err.contains("standard input, line 2: these bytes are no text"), "{err}");
+    assert_eq!(folder.done(&["-s", "s", "scan"]), "5  a\n");
+    let Came { status, out, .. } = folder.call_with(&["-s", "s", "script", "-k"], input);
+    assert_eq!((status, out.as_str()), (2, "done\ndone\n"));
+    let Came { status, out, err } = folder.call_with(&["-s", "s", "prompt"], input);
+    assert_eq!((status, out.as_str()), (0, "done\ndone\n"));
+    assert!(err.starts_with("these bytes are no text"), "{err}");
+    // A folder is no input at all, and going on would not help.
+    let came = folder.shell("surveyctl script -k < . ; echo status $?");
+    assert!(came.contains("the input can't be read") && came.ends_with("status 4\n"), "{came}");
+}
+
+#[test]
+fn empty_input_is_an_empty_script_and_an_empty_list() {
+    let folder = with_store("empty");
+    let before = folder.read("s");
+    for words in [&["-s", "s"][..], &["-s", "s", "prompt"], &["encode"], &["decode", "list"]] {
+        let came = folder.call(words);
+        assert_eq!(came, Came { status: 0, out: "".into(), err: "".into() }, "{words:?}");
+    }
+    let came = folder.call(&["-s", "s", "replay", "-"]);
+    assert_eq!((came.status, came.out.as_str()), (0, "0 requests served\n"));
+    assert_eq!(folder.read("s"), before);
 }

@@ -61,7 +61,7 @@ fn each_rule_is_told_by_its_letter_and_its_text() {
             let letter = rule.letter();
             let told = format!("refused, 5: store not sound, rule {letter}: ");
             assert!(err.contains(&told), "{name}: {err}");
-            assert!(err.lines().skip(1).all(|line| line.len() <= 100), "{err}");
+            assert!(err.lines().skip(1).all(|line| line.len() <= 80), "{err}");
             let text = format!("Rule {letter} of a sound store: {}", rule.explanation());
             let words: Vec<&str> = err.split_whitespace().collect();
             assert!(words.join(" ").contains(&text), "{name}: {err}");
@@ -84,6 +84,9 @@ fn files_of_a_wrong_length_are_number_1() {
         let Came { status, err, .. } = folder.call(&["--store", "s", "report"]);
         assert_eq!(status, 3);
         assert!(err.starts_with("surveyctl: s: refused, 1: "), "{err}");
+        let words: Vec<&str> = err.split_whitespace().collect();
+        let told = format!("and 1104 more; this one has {}.", bytes.len());
+        assert!(words.join(" ").contains(&told), "{err}");
         assert_eq!(folder.read("s"), bytes);
     }
 }
@@ -95,7 +98,8 @@ fn a_file_that_another_program_changed_is_left_alone() {
     // The prompt has read the file once it answers.
     assert_eq!(prompt.say_and_hear("get 4"), "v\n");
     assert_eq!(folder.done(&["--store", "s", "put", "60", "w"]), "done\n");
-    assert_eq!(prompt.say_and_hear("put 50 v"), "done\n");
+    // It is not told as done, since it is not kept.
+    assert_eq!(prompt.say_and_hear("put 50 v"), "");
     let Came { status, err, .. } = prompt.end();
     assert_eq!(status, 4);
     assert!(err.contains("s: has been changed by another program since it was read"), "{err}");

@@ -18,21 +18,23 @@ fn small(name: &str) -> Folder {
 #[test]
 fn the_picture_in_text() {
     let folder = small("text");
-    // Seven keys share the forty columns; a bar begins and ends with the columns that its keys touch.
+    // Seven keys share the 32 columns; a bar begins and ends with the columns that its keys touch.
     let expected = "\
-16 places: 12 free, 3 live, 1 frozen; 1 link; threshold 1; cursor 4
+16 places: 12 free, 3 live, 1 frozen; 1 link
+threshold 1, cursor 4
 
-memory              1  ......................#######...........  50 to 50
+memory          1  ..................#####.........  50 to 50
 level 0: 2 tables (capacity 2), oldest first
-  place 2           1  ............................#######.....  12 1.000 to 12 1.000
-  place 3           1  ..................................######  12 2.000 to 12 2.000
-level 1: 1 table (capacity 8)
-  place 0           2  #######################.................  10 to 40; merge due
-    + of place 1    2  ========================================  first to last
+  place 2       1  ......................######....  12 1.000 to 1.000
+  place 3       1  ...........................#####  12 2.000 to 2.000
+level 1: 1 table (capacity 8); merge due: place 0
+  place 0       2  ###################.............  10 to 40
+  + place 1     2  ================================  0 to last
 level 2: 0 tables (capacity 32)
 level 3: 0 tables
-frozen: 1
-  place 1           2  .....~~~~~~~~~~~~~......................  20 to 30; linked by place 0 of level 1
+frozen, linked from level 1: 1 table
+  place 1       2  ....==========..................  20 to 30
+entries: # a table's own keys, = the slice of a link, - merged already
 places: . free, 0 to 3 live on that level, f frozen
      0  1f00............
 ";
@@ -41,7 +43,7 @@ places: . free, 0 to 3 live on that level, f frozen
     assert_eq!(shown.lines().count(), expected.lines().count());
     assert_eq!(shown.matches('█').count(), expected.matches('#').count());
     assert_eq!(shown.matches('▒').count(), expected.matches('=').count());
-    assert_eq!(shown.matches('░').count(), expected.matches('~').count());
+    assert_eq!(shown.matches('░').count(), expected.matches('-').count());
     assert_eq!(folder.call_with(&["--store", "s", "prompt"], b"show\n").out, shown);
     let whole = folder.done(&["--store", "s", "--whole-keys", "show"]);
     assert!(whole.contains("13194139534312 to 13194139534312"));
@@ -58,9 +60,9 @@ fn links_stand_newest_first_as_they_are_read() {
     let folder = Folder::new("links");
     let tables: String = (1..=5).map(|key| format!("put {key} v\nflush\n")).collect();
     let came = folder.call_with(&[], format!("{tables}tidy all\nshow\n").as_bytes());
-    let links: Vec<&str> = came.out.lines().filter(|line| line.contains("└ of place")).collect();
+    let links: Vec<&str> = came.out.lines().filter(|line| line.contains("└ place")).collect();
     assert_eq!(links.len(), 2);
-    assert!(links[0].contains("of place 2 ") && links[1].contains("of place 1 "), "{links:?}");
+    assert!(links[0].contains("place 2 ") && links[1].contains("place 1 "), "{links:?}");
     assert!(!came.out.contains("merge due"));
 }
 
@@ -78,13 +80,12 @@ fn the_picture_as_an_svg() {
     }
     assert!(open.is_empty());
     assert!(svg.starts_with("<svg xmlns=\"http://www.w3.org/2000/svg\" "));
-    // The slice that waits for its merge is filled in the frozen table.
-    let waits = "fill=\"#9cc9e3\"><title>place 1, frozen";
-    assert_eq!(svg.matches(waits).count(), 1);
+    // The part that waits for its merge is filled in the frozen table.
+    assert_eq!(svg.matches("frozen: 2 entries, 20 to 30; 2 entries wait</title>").count(), 1);
     for tip in [
-        "memory: 1, 50 to 50",
-        "place 2, level 0: 1 entry, 12 1.000 to 12 1.000",
-        "place 0, level 1: 2 entries, 10 to 40",
+        "memory: 1 entry, 50 to 50",
+        "place 2, level 0: 1 entry, 12 1.000 to 1.000",
+        "place 0, level 1, merge due: 2 entries, 10 to 40",
         "place 1, frozen: 2 entries, 20 to 30",
         "link of place 0 to place 1: 2 entries, 0 to last",
         "place 1: frozen",
@@ -106,4 +107,66 @@ fn a_new_store_and_a_full_one_can_be_drawn() {
     let lines: String = (0..16).map(|key| format!("put {key} v\nflush\n")).collect();
     let came = folder.call_with(&["--places", "16"], format!("{lines}show\n").as_bytes());
     assert!(came.out.contains("16 places: 0 free, 16 live, 0 frozen"));
+}
+
+/// The number in an attribute of a tag.
+fn number(tag: &str, name: &str) -> f64 {
+    let from = tag.split(&format!(" {name}=\"")).nth(1).expect(name);
+    from.split('"').next().unwrap().parse().expect(name)
+}
+
+/// The horizontal reach of the bar with this text.
+fn reach(svg: &str, tip: &str) -> (f64, f64) {
+    let bar = svg.lines().find(|line| line.contains(&format!("<title>{tip}</title>"))).expect(tip);
+    (number(bar, "x"), number(bar, "x") + number(bar, "width"))
+}
+
+/// A line to a slice begins below the part of the frozen table that waits, also where the slice reaches far beyond it.
+#[test]
+fn lines_begin_at_frozen_tables() {
+    let folder = Folder::new("lines");
+    folder.done(&["--store", "s", "--places", "16", "new"]);
+    let tables = [vec![10, 11], vec![1, 2], vec![3, 4], vec![5, 6], vec![20, 21, 22, 23, 24]];
+    let table = |keys: &Vec<u32>| -> String {
+        keys.iter().map(|key| format!("put {key} v\n")).chain(["flush\n".into()]).collect()
+    };
+    let lines: String = tables.iter().map(table).collect();
+    folder.call_with(&["--store", "s", "script"], format!("{lines}tidy all\n").as_bytes());
+    let svg = folder.done(&["--store", "s", "show", "--svg", "-"]);
+    let lines = svg.lines().filter(|line| line.starts_with("<path") && line.contains('V'));
+    let lines: Vec<f64> = lines
+        .map(|line| line.split("M").nth(1).unwrap().split(' ').next().unwrap().parse().unwrap())
+        .collect();
+    assert_eq!(lines.len(), 2);
+    for (place, range) in [(1, "1 to 2"), (2, "3 to 4")] {
+        let tip = format!("place {place}, frozen: 2 entries, {range}; 2 entries wait");
+        let (from, to) = reach(&svg, &tip);
+        assert!(lines.iter().any(|x| (from..to).contains(x)), "{place}: {from} to {to}, {lines:?}");
+    }
+}
+
+/// A store of 4,096 places, most of them full, is drawn in a picture of a page's height, with lines of 80 columns in text.
+#[test]
+fn a_large_store_can_be_looked_at() {
+    let folder = Folder::new("large");
+    folder.done(&["--store", "s", "--places", "4096", "new"]);
+    let mut list: Vec<u8> = Vec::new();
+    for round in 0..3_000u64 {
+        for at in 0..4 {
+            let key = (round * 7919 + at * 104_729) % 400 << 40 | (round * 65_537 + at) % 90_000;
+            list.extend([12, 0, 1, 0]);
+            list.extend(key.to_le_bytes());
+        }
+        list.extend([4, 0, 5, 0]);
+        // So few steps that tables and links stay.
+        list.extend([4, 0, 6, 0].repeat(if round % 2 == 0 { 1 } else { 2 }));
+    }
+    folder.write("list", list);
+    folder.done(&["--store", "s", "replay", "list"]);
+    let svg = folder.done(&["--store", "s", "show", "--svg", "-"]);
+    let head = svg.lines().next().unwrap();
+    assert!(number(head, "height") < 3_000.0, "{head}");
+    let shown = folder.done(&["--store", "s", "show"]);
+    assert!(shown.lines().count() > 3_000);
+    assert!(shown.lines().all(|line| line.chars().count() <= 80));
 }

@@ -5,11 +5,11 @@ mod common;
 use common::Folder;
 use surveyctl::Command;
 
-/// The sessions of the README: lines of a shell, each with the lines that it prints.
-fn sessions() -> Vec<(String, String)> {
+/// The sessions of a text: lines of a shell, each with the lines that it prints.
+fn sessions(text: &str) -> Vec<(String, String)> {
     let mut sessions: Vec<(String, String)> = Vec::new();
     let mut open = false;
-    for line in include_str!("../README.md").lines() {
+    for line in text.lines() {
         match (line.strip_prefix("    $ "), line.strip_prefix("    ")) {
             (Some(command), _) => {
                 sessions.push((command.into(), String::new()));
@@ -18,26 +18,54 @@ fn sessions() -> Vec<(String, String)> {
             (None, Some(printed)) if open => {
                 sessions.last_mut().expect("open").1 += &format!("{printed}\n");
             }
+            // An empty line may be one of those that are printed.
+            (None, None) if open && line.is_empty() => {
+                sessions.last_mut().expect("open").1 += "\n";
+            }
             _ => open = false,
         }
     }
     sessions
 }
 
-#[test]
-fn the_sessions_of_the_readme_run_as_printed() {
-    let folder = Folder::new("readme");
-    let sessions = sessions();
-    assert!(sessions.len() > 15);
-    for (command, printed) in sessions {
-        let came = folder.shell(&command);
-        // Of a picture only the beginning is printed.
-        if command.ends_with(" show") {
-            assert!(came.starts_with(&printed), "{command}\n{came}");
-        } else {
-            assert_eq!(came, printed, "{command}");
+/// Whether this was printed; a line of three points stands for any lines.
+fn is_printed(came: &str, printed: &str) -> bool {
+    let mut parts = printed.split("...\n");
+    let first = parts.next().unwrap_or("");
+    let Some(mut rest) = came.strip_prefix(first) else { return false };
+    let mut last = None;
+    for part in parts {
+        if let Some(part) = last.replace(part) {
+            let Some(at) = rest.find(part) else { return false };
+            rest = &rest[at + part.len()..];
         }
     }
+    last.map_or(rest.is_empty(), |last| rest.ends_with(last))
+}
+
+/// Runs the sessions of a text, one behind the other in one folder.
+fn run_sessions(folder: &Folder, text: &str, least: usize) {
+    let sessions = sessions(text);
+    assert!(sessions.len() >= least, "{}", sessions.len());
+    for (command, printed) in sessions {
+        let came = folder.shell(&command);
+        // The text goes on behind an empty line.
+        let (came, printed) = (came.trim_end(), printed.trim_end());
+        let (came, printed) = (format!("{came}\n"), format!("{printed}\n"));
+        assert!(is_printed(&came, &printed), "$ {command}\n{came}instead of\n{printed}");
+    }
+}
+
+#[test]
+fn lines_that_are_left_out_are_all_that_may_differ() {
+    assert!(is_printed("a\nb\n", "a\nb\n") && !is_printed("a\nb\n", "a\n"));
+    assert!(is_printed("a\nb\nc\n", "a\n...\nc\n") && !is_printed("a\nb\n", "a\n...\nc\n"));
+    assert!(is_printed("a\nb\n", "a\n...\n") && !is_printed("b\na\n", "a\n...\n"));
+}
+
+#[test]
+fn the_sessions_of_the_readme_run_as_printed() {
+    run_sessions(&Folder::new("readme"), include_str!("../README.md"), 16);
 }
 
 /// Lines of a help text that are indented by two are commands, or calls of the program.
@@ -73,6 +101,9 @@ fn every_command_has_a_help_text() {
         count += 1;
     }
     assert!(count > 15);
+    let texts = ["put", "scan", "script", "replay", "decode"].map(|it| folder.done(&["help", it]));
+    let long = texts.iter().chain([&all]).flat_map(|text| text.lines()).find(|it| it.len() > 80);
+    assert_eq!(long, None, "a terminal has 80 columns");
     assert_eq!(folder.call(&["help", "frob"]).status, 2);
     assert_eq!(all, folder.done(&["-h"]));
     assert_eq!(all, folder.done(&["help"]));

@@ -26,7 +26,7 @@ fn comes_back(key: Key, value: &[u8]) {
 #[test]
 fn what_is_printed_is_read_back() {
     let keys = [0, 1, 999, 1 << 40, (1 << 40) - 1, 12 << 40 | 3450, u64::MAX - 1, u64::MAX];
-    let values: [&[u8]; 14] = [
+    let values: [&[u8]; 20] = [
         b"",
         b"crack",
         b"a b  c",
@@ -38,6 +38,12 @@ fn what_is_printed_is_read_back() {
         b"hex:41",
         b"3.450",
         b"3.450 x",
+        b"-3.450 x",
+        b"3,450",
+        b".5",
+        b"20 % root",
+        b"20",
+        b"-20",
         b"\xff",
         b"a\nb",
         "ä · ∞".as_bytes(),
@@ -49,7 +55,7 @@ fn what_is_printed_is_read_back() {
     for _ in 0..20_000 {
         let (key, length) = (Key(next() >> (next() % 64)), next() as usize % 49);
         // Few different bytes, so that quotes, spaces, points and digits meet.
-        let signs = b"3.4 \"\\hex:a\n\xc3\xa4";
+        let signs = b"3.4 \"\\hex:a\n\xc3\xa4-,+";
         let value: Vec<u8> = (0..length).map(|_| signs[next() as usize % signs.len()]).collect();
         comes_back(key, &value);
     }
@@ -82,6 +88,13 @@ fn keys_are_lines_and_metres_or_whole_numbers() {
         "18446744073709551616",
         "12 3.450 4",
         "0x",
+        "0x+5",
+        "+5",
+        "12 -3.450",
+        "12 +3.450",
+        "12 3,450",
+        "12 99999999999999999999.000",
+        "１２",
         "1.5",
     ];
     for words in wrong {
@@ -118,8 +131,27 @@ fn values_are_text_or_hexadecimal() {
     assert_eq!(value("hex:00ff41"), Some(vec![0, 255, 0x41]));
     assert_eq!(value("hex:"), Some(vec![]));
     assert_eq!(value("\"\""), Some(vec![]));
+    assert_eq!(value("20"), Some(b"20".to_vec()));
+    assert_eq!(value("-20 %"), Some(b"-20 %".to_vec()));
+    assert_eq!(value("\"20 % root\""), Some(b"20 % root".to_vec()));
+    assert_eq!(value("裂缝 – Riß"), Some("裂缝 – Riß".as_bytes().to_vec()));
+    // Behind metres a number is plainly a value.
+    let behind = read("put 12 3.450 20 % root");
+    assert_eq!(behind, Some(Request::Put(Key::of(12, 3450).unwrap(), b"20 % root".to_vec())));
     assert_eq!(value("\"a \\\" b\""), Some(b"a \" b".to_vec()));
-    for words in ["", "hex:0", "hex:0g", "hex:+1", "\"a", "\"a\" b", "\""] {
+    for words in [
+        "20 % root",
+        "-2.5",
+        "2,5 %",
+        ".5",
+        "",
+        "hex:0",
+        "hex:0g",
+        "hex:+1",
+        "\"a",
+        "\"a\" b",
+        "\"",
+    ] {
         assert_eq!(value(words), None, "{words}");
     }
 }

@@ -1,5 +1,6 @@
 //! `show`: what stands where in a store, drawn in text or as an SVG.
 
+mod paint;
 mod scale;
 mod svg;
 mod text;
@@ -29,7 +30,9 @@ pub fn show(session: &Session, rest: &[&str], streams: &mut Streams) -> Result<(
     }
     let view = session.store.view();
     match file {
+        Some("-") => Ok(streams.out.write_all(svg::draw(&view, session.whole).as_bytes())?),
         Some(name) => {
+            session.spare(name)?;
             let picture = svg::draw(&view, session.whole);
             std::fs::write(name, picture).map_err(|error| Failure::file(name, error))
         }

@@ -1,5 +1,6 @@
 //! Where keys stand in a picture: by their order among all keys that are there, each as wide as the next.
 
+use std::collections::BTreeSet;
 use zilgwern::{Entry, Key, Link, Table, View};
 
 /// All keys of a store, rising.
@@ -36,18 +37,25 @@ pub fn extent(entries: &[Entry]) -> Option<(Key, Key)> {
     Some((entries.first()?.key, entries.last()?.key))
 }
 
-/// How many of a frozen table's entries a link holds.
-pub fn held(view: &View, link: &Link) -> usize {
-    let frozen = view.frozen.iter().find(|table| table.place == link.place);
-    frozen.map_or(0, |table| table.entries.iter().filter(|entry| link.holds(entry.key)).count())
+/// The entries of a frozen table that a link holds. Frozen tables stand by place, entries by key.
+pub fn held<'a>(view: &'a View, link: &Link) -> &'a [Entry] {
+    let found = view.frozen.binary_search_by_key(&link.place, |table| table.place);
+    let entries = found.map_or(&[][..], |at| &view.frozen[at].entries);
+    let from = entries.partition_point(|entry| entry.key < link.low);
+    let until = entries.partition_point(|entry| entry.key <= link.high);
+    &entries[from..until.max(from)]
 }
 
-/// Frozen tables whose links hang on a level.
+/// Whether a table has as many links as make a merge due.
+pub fn due(view: &View, table: &Table) -> bool {
+    table.links.len() as u64 == view.threshold
+}
+
+/// Frozen tables whose links hang on a level, by place.
 pub fn frozen_on(view: &View, level: usize) -> Vec<&Table> {
-    let hangs = |place: usize| {
-        view.levels[level].iter().any(|table| table.links.iter().any(|link| link.place == place))
-    };
-    view.frozen.iter().filter(|table| hangs(table.place)).collect()
+    let links = view.levels[level].iter().flat_map(|table| &table.links);
+    let named: BTreeSet<usize> = links.map(|link| link.place).collect();
+    view.frozen.iter().filter(|table| named.contains(&table.place)).collect()
 }
 
 /// What is known of each place: the level of a live table, frozen, or neither.
@@ -84,12 +92,11 @@ pub fn counted(count: usize, one: &str, several: &str) -> String {
     }
 }
 
-/// The title line of both pictures.
+/// The first line of both pictures.
 pub fn title(view: &View) -> String {
     let live: usize = view.levels.iter().map(Vec::len).sum();
     let links: usize = view.levels.iter().flatten().map(|table| table.links.len()).sum();
     let (free, frozen) = (view.free(), view.frozen.len());
     let places = format!("{} places: {free} free, {live} live, {frozen} frozen", view.places);
-    let links = counted(links, "link", "links");
-    format!("{places}; {links}; threshold {}; cursor {}", view.threshold, view.cursor)
+    format!("{places}; {}", counted(links, "link", "links"))
 }

@@ -1,280 +1,287 @@
 //! The picture as an SVG: a lane for the memory table and for each level, links as slices that hang between frozen tables
 //! and the tables below, and a map of all places.
 
-use super::scale::{counted, extent, fill, frozen_on, held, states, title, Scale, State};
-use crate::words::key_words;
-use zilgwern::{Key, Link, Table, View};
+use super::paint::{Paint, FREE, FROZEN, LEFT, LEVELS, MEMORY, MERGED, RIGHT, WIDTH};
+use super::scale::{counted, due, extent, fill, frozen_on, held, states, title, Scale, State};
+use crate::words::{key_words, range_words};
+use zilgwern::{Entry, Key, Link, Table, View};
 
-/// Where the lanes begin, and how wide they are.
-const LEFT: f64 = 150.0;
-const WIDTH: f64 = 1040.0;
-const RIGHT: f64 = 30.0;
-
-/// Heights of a table, of a link's slice, and the room between things.
-const TABLE: f64 = 22.0;
-const SLICE: f64 = 8.0;
+/// Heights of a row of tables and of a link's slice, each with the room below it, and the room between things.
+const ROW: f64 = 25.0;
+const SLICE: f64 = 10.0;
 const GAP: f64 = 6.0;
+
+/// Rows that have their full height; more of them share the same room, but have at least this height each.
+const FULL_ROWS: f64 = 16.0;
+const LEAST_ROW: f64 = 1.5;
+
 /// Room for the lines from frozen tables to slices.
 const REACH: f64 = 26.0;
 
 /// Places on one row of the map, and the side of one.
 const MAP: usize = 128;
-const SQUARE: f64 = 8.0;
-
-/// Colours of levels 0 to 3, of the memory table, of frozen tables and what has been merged of them, and of free places.
-const LEVELS: [&str; 4] = ["#c8553d", "#d79a2b", "#4f8a5b", "#3b6ea5"];
-const MEMORY: &str = "#6b6b83";
-const FROZEN: &str = "#9cc9e3";
-const MERGED: &str = "#eef6fb";
-const FREE: &str = "#ececec";
+const SQUARE: f64 = 8.1;
 
 struct Drawing<'a> {
     view: &'a View,
     scale: Scale,
     whole: bool,
-    parts: String,
+    paint: Paint,
     /// How far down the picture has come.
     y: f64,
 }
 
-/// A frozen table's bar: its place, where it ends downwards.
+/// A frozen table's bar: its place, and where it ends downwards.
 struct Hung {
     place: usize,
     bottom: f64,
 }
 
 pub fn draw(view: &View, whole: bool) -> String {
-    let scale = Scale::of(view);
-    let mut drawing = Drawing { view, scale, whole, parts: String::new(), y: 28.0 };
-    drawing.words(16.0, 28.0, "title", &title(view));
-    drawing.ends();
+    let mut drawing =
+        Drawing { view, scale: Scale::of(view), whole, paint: Paint::default(), y: 28.0 };
+    drawing.head();
     drawing.memory();
     drawing.level_0();
     (1..view.levels.len()).for_each(|level| drawing.level(level));
     drawing.map();
-    let (width, height) = (LEFT + WIDTH + RIGHT, drawing.y + 20.0);
-    format!(
-        "<svg xmlns=\"http://www.w3.org/2000/svg\" width=\"{width}\" height=\"{height}\" \
-         viewBox=\"0 0 {width} {height}\" font-family=\"sans-serif\" font-size=\"11\">\n{STYLE}\
-         <rect width=\"100%\" height=\"100%\" fill=\"white\"/>\n{}</svg>\n",
-        drawing.parts
-    )
+    drawing.paint.picture(LEFT + WIDTH + RIGHT, drawing.y + 20.0)
 }
 
-const STYLE: &str =
-    "<style>.title{font-size:15px;font-weight:bold}.lane{font-size:13px;font-weight:bold}\
-.note{fill:#666}.on{fill:white;text-anchor:middle}.ice{fill:#123;text-anchor:middle}</style>\n";
+/// The height of one of so many rows.
+fn row_height(rows: usize) -> f64 {
+    (FULL_ROWS * ROW / rows.max(1) as f64).clamp(LEAST_ROW, ROW)
+}
 
-/// Text that may stand between tags.
-fn plain(text: &str) -> String {
-    text.replace('&', "&amp;").replace('<', "&lt;").replace('>', "&gt;")
+/// What of a row its table takes; the rest keeps it from the next.
+fn table_height(row: f64) -> f64 {
+    row - (row / 8.0).min(3.0)
+}
+
+/// The frozen tables of a level, in as few rows as keep them apart.
+fn rows(view: &View, level: usize) -> Vec<Vec<&Table>> {
+    let mut tables = frozen_on(view, level);
+    tables.sort_by_key(|table| extent(&table.entries));
+    let mut rows: Vec<(Key, Vec<&Table>)> = Vec::new();
+    for table in tables {
+        let Some((low, high)) = extent(&table.entries) else { continue };
+        match rows.iter_mut().find(|(end, _)| *end < low) {
+            Some((end, row)) => {
+                *end = high;
+                row.push(table);
+            }
+            None => rows.push((high, vec![table])),
+        }
+    }
+    rows.into_iter().map(|(_, row)| row).collect()
 }
 
 impl Drawing<'_> {
-    fn words(&mut self, x: f64, y: f64, class: &str, text: &str) {
-        let text = plain(text);
-        self.parts += &format!("<text x=\"{x:.1}\" y=\"{y:.1}\" class=\"{class}\">{text}</text>\n");
-    }
-
-    /// A bar with a text that shows when one points at it.
-    fn bar(&mut self, (x, width): (f64, f64), (y, height): (f64, f64), look: &str, tip: &str) {
-        let tip = plain(tip);
-        self.parts += &format!(
-            "<rect x=\"{x:.1}\" y=\"{y:.1}\" width=\"{width:.1}\" height=\"{height}\" {look}>\
-             <title>{tip}</title></rect>\n"
-        );
-    }
-
-    /// Where a range of keys begins, and how wide it is; never too narrow to be seen.
-    fn reach(&self, low: Key, high: Key) -> (f64, f64) {
-        let (start, end) = self.scale.range(low, high);
-        let (x, width) = (LEFT + start * WIDTH, (end - start) * WIDTH);
-        (x.min(LEFT + WIDTH - 2.0), width.max(2.0))
-    }
-
-    fn range(&self, low: Key, high: Key) -> String {
-        format!("{} to {}", key_words(low, self.whole), key_words(high, self.whole))
-    }
-
-    /// The name of a lane, with a line over all its width above it.
-    fn lane(&mut self, name: &str, note: &str) {
-        self.y += 2.0 * GAP;
-        let (y, end) = (self.y, LEFT + WIDTH + RIGHT / 2.0);
-        self.parts += &format!("<path d=\"M16 {y:.1}H{end:.1}\" stroke=\"#ccc\"/>\n");
-        self.y += GAP;
-        self.words(16.0, self.y + 14.0, "lane", name);
-        self.words(16.0, self.y + 30.0, "note", note);
-    }
-
-    /// The least and the greatest key that are there, at the ends of the scale.
-    fn ends(&mut self) {
-        self.y += 18.0;
+    /// Title, what the width means, and what the colours mean.
+    fn head(&mut self) {
+        let View { threshold, cursor, .. } = self.view;
+        let words = format!("{}; threshold {threshold}; cursor {cursor}", title(self.view));
+        self.paint.words(16.0, self.y, "title", &words);
         let words = match self.scale.ends() {
             Some((low, high)) => {
-                let range = self.range(low, high);
-                format!("keys in their order, from {range}, each as wide as the next")
+                let range = range_words(low, high, self.whole);
+                format!("left to right: the keys in their order, {range}, each as wide as the next")
             }
             None => "no keys".into(),
         };
-        self.words(16.0, self.y, "note", &words);
+        self.paint.words(16.0, self.y + 18.0, "note", &words);
+        self.paint.legend(self.y + 36.0);
+        self.y += 40.0;
+    }
+
+    /// Where a range of keys begins, and how wide it is.
+    fn reach(&self, low: Key, high: Key) -> (f64, f64) {
+        let (start, end) = self.scale.range(low, high);
+        (LEFT + start * WIDTH, (end - start) * WIDTH)
+    }
+
+    fn reach_of(&self, entries: &[Entry]) -> (f64, f64) {
+        extent(entries).map_or((LEFT, 0.0), |(low, high)| self.reach(low, high))
+    }
+
+    /// The name of a lane, with a line over all its width above it, and notes below the name.
+    fn lane(&mut self, name: &str, notes: &[String]) {
+        self.y += 2.0 * GAP;
+        self.paint.rule(self.y);
+        self.y += GAP;
+        self.paint.words(16.0, self.y + 14.0, "lane", name);
+        for (at, note) in notes.iter().enumerate() {
+            self.paint.words(16.0, self.y + 30.0 + 15.0 * at as f64, "note", note);
+        }
     }
 
     fn memory(&mut self) {
         let entries = &self.view.memory;
-        self.lane("memory", &format!("{} of 16 entries", entries.len()));
+        self.lane("memory", &[format!("{} of 16 entries", entries.len())]);
         if let Some((low, high)) = extent(entries) {
+            let range = range_words(low, high, self.whole);
+            let tip = format!("memory: {}, {range}", counted(entries.len(), "entry", "entries"));
             let reach = self.reach(low, high);
-            let tip = format!("memory: {}, {}", entries.len(), self.range(low, high));
-            self.bar(reach, (self.y, TABLE), &format!("fill=\"{MEMORY}\" rx=\"3\""), &tip);
+            self.paint.solid(reach, (self.y, table_height(ROW)), MEMORY, &tip);
         }
         self.y += 34.0;
     }
 
-    /// The label in a bar, where it has room.
-    fn label(&mut self, (x, width): (f64, f64), y: f64, class: &str, place: usize) {
-        let text = place.to_string();
-        if width > 7.0 * text.len() as f64 + 4.0 {
-            self.words(x + width / 2.0, y + 15.0, class, &text);
-        }
-    }
-
     fn tip(&self, kind: &str, table: &Table) -> String {
         let count = counted(table.entries.len(), "entry", "entries");
-        let range =
-            extent(&table.entries).map_or(String::new(), |(low, high)| self.range(low, high));
+        let range = extent(&table.entries)
+            .map_or(String::new(), |(low, high)| range_words(low, high, self.whole));
         format!("place {}, {kind}: {count}, {range}", table.place)
     }
 
     /// Level 0: a row for each table, the newest on top since it is read first.
     fn level_0(&mut self) {
-        self.lane("level 0", &fill(self.view, 0));
-        let began = self.y;
         let view = self.view;
+        let mut notes = vec![fill(view, 0)];
+        if view.levels[0].len() > 1 {
+            notes.push("newest on top".into());
+        }
+        self.lane("level 0", &notes);
+        let (began, row) = (self.y, row_height(view.levels[0].len()));
         for table in view.levels[0].iter().rev() {
-            let reach = self.own(table);
-            self.bar(
-                reach,
-                (self.y, TABLE),
-                &format!("fill=\"{}\" rx=\"3\"", LEVELS[0]),
-                &self.tip("level 0", table),
-            );
-            self.label(reach, self.y, "on", table.place);
-            self.y += TABLE + 3.0;
+            let (reach, tip) = (self.reach_of(&table.entries), self.tip("level 0", table));
+            self.paint.solid(reach, (self.y, table_height(row)), LEVELS[0], &tip);
+            self.paint.label(reach, (self.y, table_height(row)), "on", table.place);
+            self.y += row;
         }
         self.y = self.y.max(began + 34.0);
     }
 
-    fn own(&self, table: &Table) -> (f64, f64) {
-        extent(&table.entries).map_or((LEFT, 2.0), |(low, high)| self.reach(low, high))
+    /// What stands below the name of a level.
+    fn notes(&self, level: usize, frozen: usize) -> Vec<String> {
+        let view = self.view;
+        let mut notes = vec![fill(view, level)];
+        if frozen > 0 {
+            notes.push(format!("{frozen} frozen above"));
+        }
+        match view.levels[level].iter().filter(|table| due(view, table)).count() {
+            0 => {}
+            count => notes.push(format!("{} due", counted(count, "merge", "merges"))),
+        }
+        if let Some(Some(mark)) = view.marks.get(level - 1) {
+            notes.push(format!("mark {}", key_words(*mark, self.whole)));
+        }
+        notes
     }
 
     /// Levels 1 to 3: frozen tables on top, then slices over the tables they belong to.
     fn level(&mut self, level: usize) {
-        self.lane(&format!("level {level}"), &fill(self.view, level));
-        let began = self.y;
-        let hung = self.frozen(level);
-        if !hung.is_empty() {
-            self.words(16.0, began + 46.0, "note", &format!("{} frozen above", hung.len()));
-        }
         let view = self.view;
-        let slices = view.levels[level].iter().map(|table| table.links.len()).max().unwrap_or(0);
-        let top = self.y + if hung.is_empty() { 0.0 } else { REACH };
-        let tables = top + slices as f64 * (SLICE + 2.0);
+        let (frozen, links) =
+            (rows(view, level), view.levels[level].iter().map(|it| it.links.len()));
+        let slices = links.max().unwrap_or(0) as f64 * SLICE;
+        let notes = self.notes(level, frozen.iter().map(Vec::len).sum());
+        self.lane(&format!("level {level}"), &notes);
+        let row = row_height(frozen.len());
+        let gap = if frozen.is_empty() { 0.0 } else { REACH };
+        let tables = self.y + frozen.len() as f64 * row + gap + slices;
+        // Lines lie below the tables that they pass.
+        self.lines(level, &frozen, row, tables);
+        for (at, tables) in frozen.iter().enumerate() {
+            let y = (self.y + at as f64 * row, table_height(row));
+            tables.iter().for_each(|table| self.frozen(level, table, y));
+        }
         for table in &view.levels[level] {
-            // The oldest slice lies on its table, newer ones above it.
-            for (age, link) in table.links.iter().enumerate() {
-                let y = tables - (age + 1) as f64 * (SLICE + 2.0);
-                self.slice(link, table, y, &hung);
-            }
+            table
+                .links
+                .iter()
+                .enumerate()
+                .for_each(|(age, link)| self.slice(link, table, age, tables));
             self.live(level, table, tables);
         }
-        self.y = (tables + TABLE + GAP).max(began + 50.0);
+        if let Some(Some(mark)) = view.marks.get(level - 1) {
+            let (x, width) = self.reach(*mark, *mark);
+            self.paint.mark(x + width, tables + ROW);
+        }
+        self.y = (tables + ROW + GAP).max(self.y + 20.0 + 15.0 * notes.len() as f64);
     }
 
-    /// A live table: its own keys filled, its span drawn around.
+    /// A live table: its own keys filled, its span drawn around; in black where a merge is due.
     fn live(&mut self, level: usize, table: &Table, y: f64) {
-        let ((low, high), colour) = (table.span(), LEVELS[level]);
-        let tip = self.tip(&format!("level {level}"), table);
-        let span = self.reach(low, high);
-        let look = format!("fill=\"none\" stroke=\"{colour}\" stroke-dasharray=\"3 2\" rx=\"3\"");
-        self.bar(span, (y, TABLE), &look, &tip);
-        let own = self.own(table);
-        self.bar(own, (y, TABLE), &format!("fill=\"{colour}\" stroke=\"white\" rx=\"3\""), &tip);
-        self.label(own, y, "on", table.place);
+        let ((low, high), at) = (table.span(), (y, table_height(ROW)));
+        let due = due(self.view, table);
+        let kind = format!("level {level}{}", if due { ", merge due" } else { "" });
+        let (tip, own) = (self.tip(&kind, table), self.reach_of(&table.entries));
+        self.paint.span(self.reach(low, high), at, if due { "black" } else { LEVELS[level] }, &tip);
+        self.paint.solid(own, at, LEVELS[level], &tip);
+        self.paint.label(own, at, "on", table.place);
     }
 
-    /// A link's slice over its table, and a line from its frozen table.
-    fn slice(&mut self, link: &Link, table: &Table, y: f64, hung: &[Hung]) {
-        let (x, width) = self.reach(link.low, link.high);
-        let count = counted(held(self.view, link), "entry", "entries");
-        let range = self.range(link.low, link.high);
+    /// A link's slice over its table: the oldest lies on it, newer ones above.
+    fn slice(&mut self, link: &Link, table: &Table, age: usize, tables: f64) {
+        let count = counted(held(self.view, link).len(), "entry", "entries");
+        let range = range_words(link.low, link.high, self.whole);
         let tip =
             format!("link of place {} to place {}: {count}, {range}", table.place, link.place);
-        let look = format!("fill=\"{FROZEN}\" stroke=\"#4d8fb3\" stroke-width=\"0.7\"");
-        self.bar((x, width), (y, SLICE), &look, &tip);
-        if let Some(from) = hung.iter().find(|hung| hung.place == link.place) {
-            let (middle, above) = (x + width / 2.0, from.bottom);
-            self.parts += &format!(
-                "<path d=\"M{middle:.1} {above:.1}V{y:.1}\" stroke=\"#4d8fb3\" stroke-width=\"0.8\" \
-                 stroke-dasharray=\"2 2\" fill=\"none\"/>\n"
-            );
-        }
+        let y = tables - (age + 1) as f64 * SLICE;
+        self.paint.ice(self.reach(link.low, link.high), (y, SLICE - 2.0), FROZEN, &tip);
     }
 
-    /// The frozen tables of a level, in as few rows as keep them apart.
-    fn frozen(&mut self, level: usize) -> Vec<Hung> {
-        let view = self.view;
-        let mut rows: Vec<f64> = Vec::new();
-        let mut hung = Vec::new();
-        for table in frozen_on(view, level) {
-            let (x, width) = self.own(table);
-            let row = rows.iter().position(|end| *end <= x).unwrap_or(rows.len());
-            if row == rows.len() {
-                rows.push(0.0);
+    /// A line from what each link holds of its frozen table to the link's slice.
+    fn lines(&mut self, level: usize, frozen: &[Vec<&Table>], row: f64, tables: f64) {
+        let rows = frozen.iter().enumerate();
+        let mut hung: Vec<Hung> = rows
+            .flat_map(|(at, row_tables)| row_tables.iter().map(move |table| (at, table)))
+            .map(|(at, table)| Hung {
+                place: table.place,
+                bottom: self.y + at as f64 * row + table_height(row),
+            })
+            .collect();
+        hung.sort_by_key(|hung| hung.place);
+        // Many lines are thin, so that they stay apart.
+        let links: usize = self.view.levels[level].iter().map(|table| table.links.len()).sum();
+        let thin = if links > 300 { 0.25 } else { 0.6 };
+        for table in &self.view.levels[level] {
+            for (age, link) in table.links.iter().enumerate() {
+                let Ok(from) = hung.binary_search_by_key(&link.place, |hung| hung.place) else {
+                    continue;
+                };
+                let (x, width) = self.reach_of(held(self.view, link));
+                let y = tables - (age + 1) as f64 * SLICE;
+                self.paint.line(x + width / 2.0, hung[from].bottom, y, thin);
             }
-            rows[row] = x + width + 1.0;
-            let y = self.y + row as f64 * (TABLE + 3.0);
-            let tip = self.tip("frozen", table);
-            self.bar((x, width), (y, TABLE), &format!("fill=\"{MERGED}\" rx=\"3\""), &tip);
-            self.waiting(level, table, y);
-            let look = "fill=\"none\" stroke=\"#4d8fb3\" rx=\"3\"";
-            self.bar((x, width), (y, TABLE), look, &tip);
-            self.label((x, width), y, "ice", table.place);
-            hung.push(Hung { place: table.place, bottom: y + TABLE });
-        }
-        self.y += rows.len() as f64 * (TABLE + 3.0);
-        hung
-    }
-
-    /// The parts of a frozen table that links still hold; the rest has been merged.
-    fn waiting(&mut self, level: usize, frozen: &Table, y: f64) {
-        let (view, own) = (self.view, extent(&frozen.entries));
-        let links = view.levels[level].iter().flat_map(|table| &table.links);
-        for link in links.filter(|link| link.place == frozen.place) {
-            let Some((least, greatest)) = own else { continue };
-            let reach = self.reach(link.low.max(least), link.high.min(greatest));
-            let tip = self.tip("frozen", frozen);
-            self.bar(reach, (y, TABLE), &format!("fill=\"{FROZEN}\""), &tip);
         }
     }
 
-    /// All places as small squares; the cursor has a frame.
+    /// A frozen table, pale where it has been merged already.
+    fn frozen(&mut self, level: usize, table: &Table, y: (f64, f64)) {
+        let (view, own) = (self.view, self.reach_of(&table.entries));
+        let tip = self.tip("frozen", table);
+        self.paint.ice(own, y, MERGED, &tip);
+        let links = view.levels[level].iter().flat_map(|on| &on.links);
+        for link in links.filter(|link| link.place == table.place) {
+            let entries = held(view, link);
+            let tip = format!("{tip}; {} wait", counted(entries.len(), "entry", "entries"));
+            self.paint.ice(self.reach_of(entries), y, FROZEN, &tip);
+        }
+        self.paint.label(own, y, "ice", table.place);
+    }
+
+    /// All places as small squares, the cursor with a frame.
     fn map(&mut self) {
-        self.lane("places", "cursor framed");
-        let (began, step) = (self.y, SQUARE + 0.1);
+        self.lane("places", &["cursor framed".into()]);
+        let at = |place: usize| ((place % MAP) as f64 * SQUARE, (place / MAP) as f64 * SQUARE);
         for (place, state) in states(self.view).into_iter().enumerate() {
             let (colour, words) = match state {
                 State::Free => (FREE, "free".into()),
                 State::Live(level) => (LEVELS[level], format!("live on level {level}")),
                 State::Frozen => (FROZEN, "frozen".into()),
             };
-            let frame = if place == self.view.cursor { "black" } else { "white" };
-            let x = LEFT + (place % MAP) as f64 * step;
-            let y = began + (place / MAP) as f64 * step;
-            let look = format!("fill=\"{colour}\" stroke=\"{frame}\"");
-            self.bar((x, SQUARE), (y, SQUARE), &look, &format!("place {place}: {words}"));
+            let (x, y) = at(place);
+            if place % MAP == 0 {
+                self.paint.words(LEFT - 6.0, self.y + y + 7.0, "row", &place.to_string());
+            }
+            let tip = format!("place {place}: {words}");
+            self.paint.square((LEFT + x, self.y + y), SQUARE - 1.0, colour, &tip);
         }
+        let (x, y) = at(self.view.cursor);
+        self.paint.frame((LEFT + x, self.y + y), SQUARE - 1.0);
         let rows = self.view.places.div_ceil(MAP);
-        self.y = (began + rows as f64 * step).max(began + 34.0);
+        self.y += (rows as f64 * SQUARE).max(34.0);
     }
 }

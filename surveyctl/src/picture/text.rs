@@ -1,28 +1,33 @@
-//! The picture in a terminal: a line for each table and link, with a bar for its keys.
+//! The picture in a terminal of 80 columns: a line for each table and link, with a bar for its keys.
 
-use super::scale::{counted, extent, fill, held, states, title, Scale, State};
-use crate::words::key_words;
+use super::scale::{counted, due, extent, fill, frozen_on, held, states, title, Scale, State};
+use crate::words::{key_words, range_words};
 use zilgwern::{Key, Table, View};
 
 /// Columns of a bar.
-const BAR: usize = 40;
+const BAR: usize = 32;
 
 /// Places on one line of the map.
 const MAP: usize = 64;
 
-/// What bars are made of.
+/// Tables that are named in one line.
+const NAMED: usize = 4;
+
+/// What bars are made of: own keys, a link's range, what of a frozen table waits and what is merged, and the rest.
 pub struct Signs {
     own: char,
     link: char,
-    frozen: char,
+    waits: char,
+    merged: char,
     rest: char,
-    arrow: &'static str,
+    arrow: char,
 }
 
 impl Signs {
     pub const BLOCKS: Signs =
-        Signs { own: '█', link: '▒', frozen: '░', rest: '·', arrow: "└" };
-    pub const ASCII: Signs = Signs { own: '#', link: '=', frozen: '~', rest: '.', arrow: "+" };
+        Signs { own: '█', link: '▒', waits: '▒', merged: '░', rest: '·', arrow: '└' };
+    pub const ASCII: Signs =
+        Signs { own: '#', link: '=', waits: '=', merged: '-', rest: '.', arrow: '+' };
 }
 
 struct Drawing<'a> {
@@ -36,96 +41,129 @@ struct Drawing<'a> {
 pub fn draw(view: &View, whole: bool, signs: &Signs) -> String {
     let mut drawing = Drawing { view, scale: Scale::of(view), whole, signs, lines: Vec::new() };
     drawing.lines.push(title(view));
-    drawing.marks();
+    drawing.book();
     drawing.lines.push(String::new());
     drawing.memory();
     (0..view.levels.len()).for_each(|level| drawing.level(level));
-    drawing.frozen();
+    (1..view.levels.len()).for_each(|level| drawing.frozen(level));
     drawing.map();
     drawing.lines.push(String::new());
     drawing.lines.join("\n")
 }
 
 impl Drawing<'_> {
-    fn key(&self, key: Key) -> String {
-        match key {
-            Key::LEAST => "first".into(),
-            Key::GREATEST => "last".into(),
-            _ => key_words(key, self.whole),
-        }
-    }
-
-    fn marks(&mut self) {
+    /// Threshold, cursor and marks.
+    fn book(&mut self) {
+        let mut line = format!("threshold {}, cursor {}", self.view.threshold, self.view.cursor);
         for (at, mark) in self.view.marks.iter().enumerate() {
             if let Some(mark) = mark {
-                let line = format!("level {} is gone through behind {}", at + 1, self.key(*mark));
-                self.lines.push(line);
+                line += &format!(", mark of level {} at {}", at + 1, key_words(*mark, self.whole));
             }
         }
+        self.lines.push(line);
     }
 
-    /// One line: a name, a count, the bar of a range, the range in words.
-    fn row(&mut self, name: &str, count: usize, sign: char, range: Option<(Key, Key)>, note: &str) {
-        let (bar, words) = match range {
-            Some((low, high)) => {
-                let words = format!("{} to {}", self.key(low), self.key(high));
-                (self.bar(low, high, sign), words)
-            }
-            None => (self.signs.rest.to_string().repeat(BAR), String::new()),
-        };
-        let line = format!("{name:<18}{count:>3}  {bar}  {words}{note}");
-        self.lines.push(line.trim_end().into());
+    /// One line: a name, a count, a bar, and the range in words.
+    fn row(&mut self, name: &str, count: usize, bar: &[char], range: Option<(Key, Key)>) {
+        let bar: String = bar.iter().collect();
+        let words = range.map_or(String::new(), |(low, high)| range_words(low, high, self.whole));
+        self.lines.push(format!("{name:<14}{count:>3}  {bar}  {words}").trim_end().into());
     }
 
-    fn bar(&self, low: Key, high: Key, sign: char) -> String {
+    /// A bar without keys.
+    fn bar(&self) -> [char; BAR] {
+        [self.signs.rest; BAR]
+    }
+
+    /// Fills the columns that a range of keys touches.
+    fn fill(&self, bar: &mut [char; BAR], low: Key, high: Key, sign: char) {
         let (start, end) = self.scale.range(low, high);
         let from = ((start * BAR as f64) as usize).min(BAR - 1);
         let until = ((end * BAR as f64).ceil() as usize).clamp(from + 1, BAR);
-        let inside = |at: usize| (from..until).contains(&at);
-        (0..BAR).map(|at| if inside(at) { sign } else { self.signs.rest }).collect()
+        bar[from..until].fill(sign);
+    }
+
+    /// A row whose bar is one range.
+    fn simple(&mut self, name: &str, count: usize, sign: char, range: Option<(Key, Key)>) {
+        let mut bar = self.bar();
+        if let Some((low, high)) = range {
+            self.fill(&mut bar, low, high, sign);
+        }
+        self.row(name, count, &bar, range);
     }
 
     fn memory(&mut self) {
         let range = extent(&self.view.memory);
-        self.row("memory", self.view.memory.len(), self.signs.own, range, "");
+        self.simple("memory", self.view.memory.len(), self.signs.own, range);
     }
 
     fn level(&mut self, level: usize) {
-        let tables = &self.view.levels[level];
+        let view = self.view;
+        let tables = &view.levels[level];
         let order = if level == 0 && tables.len() > 1 { ", oldest first" } else { "" };
-        self.lines.push(format!("level {level}: {}{order}", fill(self.view, level)));
-        tables.iter().for_each(|table| self.table(table));
-    }
-
-    /// A table with its own keys, and below it each link with its range, newest first, as they are read.
-    fn table(&mut self, table: &Table) {
-        let name = format!("  place {}", table.place);
-        let due = !table.links.is_empty() && table.links.len() as u64 == self.view.threshold;
-        let note = if due { "; merge due" } else { "" };
-        self.row(&name, table.entries.len(), self.signs.own, extent(&table.entries), note);
-        for link in table.links.iter().rev() {
-            let name = format!("    {} of place {}", self.signs.arrow, link.place);
-            let count = held(self.view, link);
-            self.row(&name, count, self.signs.link, Some((link.low, link.high)), "");
-        }
-    }
-
-    fn frozen(&mut self) {
-        self.lines.push(format!("frozen: {}", self.view.frozen.len()));
-        for table in &self.view.frozen {
-            let from = self.view.linked_from(table.place);
-            let places: Vec<String> = from.iter().map(|(_, place)| place.to_string()).collect();
-            let level = from.first().map_or(0, |(level, _)| *level);
-            let on =
-                counted(places.len(), "place", "places").replace(|c: char| c.is_ascii_digit(), "");
-            let note = format!("; linked by{on} {} of level {level}", places.join(", "));
+        self.lines.push(format!("level {level}: {}{order}{}", fill(view, level), self.due(level)));
+        for table in tables {
             let name = format!("  place {}", table.place);
-            let (count, range) = (table.entries.len(), extent(&table.entries));
-            self.row(&name, count, self.signs.frozen, range, &note);
+            self.simple(&name, table.entries.len(), self.signs.own, extent(&table.entries));
+            self.links(table);
         }
     }
 
+    /// The places of tables with as many links as make a merge due.
+    fn due(&self, level: usize) -> String {
+        let due = self.view.levels[level].iter().filter(|table| due(self.view, table));
+        let places: Vec<String> = due.map(|table| table.place.to_string()).collect();
+        let (named, others) = places.split_at(places.len().min(NAMED));
+        let more = match others.len() {
+            0 => String::new(),
+            count => format!(" and {count} more"),
+        };
+        match named {
+            [] => String::new(),
+            [one] => format!("; merge due: place {one}"),
+            several => format!("; merge due: places {}{more}", several.join(", ")),
+        }
+    }
+
+    /// Below a table each link with its range, newest first, as they are read.
+    fn links(&mut self, table: &Table) {
+        for link in table.links.iter().rev() {
+            let name = format!("  {} place {}", self.signs.arrow, link.place);
+            let count = held(self.view, link).len();
+            self.simple(&name, count, self.signs.link, Some((link.low, link.high)));
+        }
+    }
+
+    /// The frozen tables whose slices hang on a level; what links still hold of them stands out.
+    fn frozen(&mut self, level: usize) {
+        let view = self.view;
+        let tables = frozen_on(view, level);
+        if tables.is_empty() {
+            return;
+        }
+        let count = counted(tables.len(), "table", "tables");
+        self.lines.push(format!("frozen, linked from level {level}: {count}"));
+        for table in tables {
+            let (mut bar, range) = (self.bar(), extent(&table.entries));
+            if let Some((low, high)) = range {
+                self.fill(&mut bar, low, high, self.signs.merged);
+            }
+            for link in view.levels[level].iter().flat_map(|on| &on.links) {
+                if let (true, Some((low, high))) =
+                    (link.place == table.place, extent(held(view, link)))
+                {
+                    self.fill(&mut bar, low, high, self.signs.waits);
+                }
+            }
+            self.row(&format!("  place {}", table.place), table.entries.len(), &bar, range);
+        }
+    }
+
+    /// What the bars mean, and all places with a sign each.
     fn map(&mut self) {
+        let Signs { own, link, merged, .. } = self.signs;
+        let slices = format!("{link} the slice of a link, {merged} merged already");
+        self.lines.push(format!("entries: {own} a table's own keys, {slices}"));
         self.lines.push("places: . free, 0 to 3 live on that level, f frozen".into());
         let sign = |state: &State| match state {
             State::Free => '.',
