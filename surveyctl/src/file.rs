@@ -25,13 +25,10 @@ pub fn make(options: &Options, streams: &mut Streams) -> Result<(), Failure> {
         return Err(Failure::usage("new", "name the file with --store FILE"));
     };
     let store = Store::owned(options.places, options.threshold)?;
-    write_new(Path::new(name), &store.memory().to_bytes(), 0o666).map_err(|error| {
-        match error.kind() {
-            ErrorKind::AlreadyExists => {
-                Failure::file(name, "is there already, and is left as it is")
-            }
-            _ => Failure::file(name, error),
-        }
+    let made = write_new(Path::new(name), &store.memory().to_bytes(), 0o666);
+    made.and_then(|()| sync_folder(Path::new(name))).map_err(|error| match error.kind() {
+        ErrorKind::AlreadyExists => Failure::file(name, "is there already, and is left as it is"),
+        _ => Failure::file(name, error),
     })?;
     let Options { places, threshold, .. } = options;
     writeln!(streams.out, "a new store of {places} places with threshold {threshold} in {name}")?;
@@ -160,7 +157,7 @@ fn write_new(name: &Path, bytes: &[u8], mode: u32) -> io::Result<()> {
     if done.is_err() {
         let _ = fs::remove_file(name);
     }
-    done.and_then(|()| sync_folder(name))
+    done
 }
 
 /// Has the name of a file on the disk too, where the file system can.

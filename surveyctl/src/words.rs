@@ -81,9 +81,9 @@ pub fn take_key(rest: &mut &str) -> Result<Key, String> {
     let number = number(word)?;
     match next_word(rest) {
         metres if looks_like_metres(metres) => at(number, take_word(rest)),
-        other if meant_as_metres(other) => Err(format!(
-            "{other}: metres are written 3.450 or 0.5; a value that begins so stands in double quotes"
-        )),
+        other if meant_as_metres(other) => {
+            Err(format!("{other}: metres are written 3.450; a value that begins so needs quotes"))
+        }
         _ => Ok(Key(number)),
     }
 }

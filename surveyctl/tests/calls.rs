@@ -44,7 +44,7 @@ fn words_that_mean_nothing_have_status_2() {
         (&["scan", "12"], "a range has two ends; all of a line is `scan line 12`"),
         (&["get", "18446744073709551616"], "too large"),
         // Metres that are not written as such are no beginning of a value.
-        (&["-s", "s", "put", "12", "-3.450", "crack"], "-3.450: metres are written 3.450 or 0.5"),
+        (&["-s", "s", "put", "12", "-3.450", "crack"], "-3.450: metres are written 3.450;"),
         (&["-s", "s", "put", "12", "3,450", "crack"], "3,450: metres are written"),
         (&["-s", "s", "put", "12", "3.", "crack"], "3.: metres are written"),
         (&["-s", "s", "put", "12", "3", "crack"], "3: metres (3.0), or a value"),

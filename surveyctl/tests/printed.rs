@@ -68,6 +68,12 @@ fn the_sessions_of_the_readme_run_as_printed() {
     run_sessions(&Folder::new("readme"), include_str!("../README.md"), 16);
 }
 
+/// Those that call `survey` want `rt check survey` first.
+#[test]
+fn the_sessions_of_the_page_of_formats_run_as_printed() {
+    run_sessions(&Folder::new("formats"), include_str!("../../docs/FORMATS.md"), 6);
+}
+
 /// Lines of a help text that are indented by two are commands, or calls of the program.
 #[test]
 fn the_examples_of_the_help_texts_are_understood() {

@@ -54,12 +54,16 @@ impl Folder {
         came.out
     }
 
-    /// Runs a line of a shell in which the program can be called by its name; errors go where the output goes.
+    /// Runs a line of a shell in which the program, and the proved ones that `rt check survey` writes, can be called by their
+    /// names; errors go where the output goes.
     pub fn shell(&self, line: &str) -> String {
         let program = Path::new(env!("CARGO_BIN_EXE_surveyctl"));
         let folder = program.parent().expect("a folder").display();
+        let package = std::env::var("CARGO_MANIFEST_DIR").expect("cargo names the package");
+        let proved = Path::new(&package).join("../target/bin");
+        let path = format!("PATH=\"{folder}:{}:$PATH\"", proved.display());
         let mut shell = Command::new("sh");
-        shell.args(["-c", &format!("exec 2>&1; PATH=\"{folder}:$PATH\"; {line}")]);
+        shell.args(["-c", &format!("exec 2>&1; {path}; {line}")]);
         self.came(&mut shell, b"").out
     }
 
