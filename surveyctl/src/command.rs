@@ -69,9 +69,9 @@ impl Command {
         }
     }
 
-    /// Whether the command can change the store.
-    pub fn changes(&self) -> bool {
-        use Request::{Delete, Flush, Put, Tidy};
-        matches!(self, Command::Ask(Put(..) | Delete(_) | Flush | Tidy) | Command::TidyAll)
+    /// Whether the command makes little sense on a new store that is forgotten at once.
+    pub fn wants_store(&self) -> bool {
+        let asks = matches!(self, Command::Ask(request) if *request != Request::Report);
+        asks || matches!(self, Command::Scan(..) | Command::TidyAll)
     }
 }

@@ -19,7 +19,7 @@ pub fn one(options: &Options, streams: &mut Streams) -> Result<(), Failure> {
     // Known words first: a store is not opened for words that mean nothing.
     let Some(command) = Command::of(&line_of(options)).map_err(hinted)? else { return Ok(()) };
     let mut session = Session::begin(options)?;
-    if command.changes() && !session.is_kept() {
+    if command.wants_store() && !session.is_kept() {
         let words = "no --store FILE is named, so this is done on a new store and then forgotten";
         writeln!(streams.err, "surveyctl: {words}")?;
     }

@@ -99,6 +99,41 @@ fn long_files_are_replayed_in_many_runs_with_progress() {
     assert_eq!(folder.done(&["--store", "s", "scan", "14", "99"]), "14  v\n15  v\n");
 }
 
+/// Whatever bytes come, a call ends with one of its statuses, and with words where that is not 0.
+#[test]
+fn any_bytes_are_taken_or_refused() {
+    let folder = Folder::new("any");
+    let mut seed = 1u64;
+    let mut next = || {
+        seed = seed.wrapping_mul(6_364_136_223_846_793_005).wrapping_add(1_442_695_040_888_963_407);
+        seed >> 33
+    };
+    let words: [&[&str]; 7] = [
+        &["decode", "list"],
+        &["decode", "answers"],
+        &["decode", "--hex", "answers"],
+        &["encode"],
+        &["script", "-k"],
+        &["prompt"],
+        &["replay", "-"],
+    ];
+    let whole = [&ANSWERS[..], &long_list(2), b"put 5 A\nscan 1 2\ntidy all\nshow\n"];
+    let mut ends = [0; 5];
+    for round in 0..350 {
+        let mut bytes = whole[next() as usize % 3].repeat(1 + next() as usize % 3);
+        for _ in 0..next() % 4 {
+            let at = next() as usize % bytes.len();
+            bytes[at] ^= 1 << (next() % 8);
+        }
+        bytes.truncate(next() as usize % (bytes.len() + 1));
+        let Came { status, out: _, err } = folder.call_with(words[round % 7], &bytes);
+        assert!((0..=3).contains(&status), "{:?} {bytes:?}: {status} {err}", words[round % 7]);
+        assert!(status == 0 || !err.is_empty(), "{:?} {bytes:?}", words[round % 7]);
+        ends[status as usize] += 1;
+    }
+    assert!(ends[0] > 30 && ends[2] > 30 && ends[3] > 30, "{ends:?}");
+}
+
 #[test]
 fn a_broken_file_is_refused_before_anything_is_run() {
     let folder = Folder::new("broken_replay");

@@ -117,9 +117,16 @@ fn what_is_done_is_kept_in_the_file_and_nowhere_else() {
     assert_eq!(folder.done(&["-s", "s", "put", "7", ""]), "done\n");
     assert_eq!(folder.done(&["-s", "s", "get", "7"]), "\"\"\n");
     // Without a file nothing is kept, and that is said.
-    let Came { status, out, err } = folder.call(&["put", "5", "x"]);
-    assert_eq!((status, out.as_str()), (0, "done\n"));
-    assert!(err.contains("then forgotten"));
+    let calls: [(&[&str], i32, &str); 3] = [
+        (&["put", "5", "x"], 0, "done\n"),
+        (&["get", "5"], 1, "no value\n"),
+        (&["scan"], 0, "no values\n"),
+    ];
+    for (words, status, printed) in calls {
+        let came = folder.call(words);
+        assert_eq!((came.status, came.out.as_str()), (status, printed));
+        assert!(came.err.contains("then forgotten"), "{words:?}");
+    }
 }
 
 #[test]

@@ -5,7 +5,7 @@ mod common;
 use common::Folder;
 use surveyctl::Command;
 
-/// The sessions of a text: lines of a shell, each with the lines that it prints.
+/// The sessions of a text: commands of a shell, each with the lines that it prints. A command goes on behind `> `.
 fn sessions(text: &str) -> Vec<(String, String)> {
     let mut sessions: Vec<(String, String)> = Vec::new();
     let mut open = false;
@@ -14,6 +14,9 @@ fn sessions(text: &str) -> Vec<(String, String)> {
             (Some(command), _) => {
                 sessions.push((command.into(), String::new()));
                 open = true;
+            }
+            (None, Some(printed)) if open && printed.starts_with("> ") => {
+                sessions.last_mut().expect("open").0 += &format!("\n{}", &printed[2..]);
             }
             (None, Some(printed)) if open => {
                 sessions.last_mut().expect("open").1 += &format!("{printed}\n");
@@ -72,6 +75,42 @@ fn the_sessions_of_the_readme_run_as_printed() {
 #[test]
 fn the_sessions_of_the_page_of_formats_run_as_printed() {
     run_sessions(&Folder::new("formats"), include_str!("../../docs/FORMATS.md"), 6);
+}
+
+/// The tour of the main README, and the picture that it shows.
+#[test]
+fn the_tour_runs_as_printed() {
+    let folder = Folder::new("tour");
+    run_sessions(&folder, include_str!("../../README.md"), 18);
+    let shown = include_str!("../../docs/tour.svg");
+    assert!(
+        folder.read("van.svg") == shown.as_bytes(),
+        "docs/tour.svg is not what the tour writes"
+    );
+}
+
+/// Where the links of a text lead to: files from its own folder on, without what is behind `#`.
+fn links(text: &str) -> Vec<&str> {
+    let ends = text.split("](").skip(1).filter_map(|rest| rest.split(')').next());
+    ends.filter_map(|link| link.split('#').next()).filter(|file| !file.is_empty()).collect()
+}
+
+#[test]
+fn the_links_of_the_texts_lead_somewhere() {
+    let package = std::env::var("CARGO_MANIFEST_DIR").expect("cargo names the package");
+    let top = std::path::Path::new(&package).join("..");
+    let texts = ["README.md", "docs/FORMATS.md", "docs/LAYOUT.md", "surveyctl/README.md"];
+    let more = ["differential/README.md", "reference/README.md", "docs/STATEMENTS.md"];
+    let mut count = 0;
+    for text in texts.iter().chain(&more) {
+        let path = top.join(text);
+        let words = std::fs::read_to_string(&path).expect(text);
+        for link in links(&words) {
+            assert!(path.parent().unwrap().join(link).exists(), "{text}: {link}");
+            count += 1;
+        }
+    }
+    assert!(count > 8);
 }
 
 /// Lines of a help text that are indented by two are commands, or calls of the program.

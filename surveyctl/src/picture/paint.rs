@@ -154,6 +154,6 @@ impl Paint {
     /// The words behind a sign of the legend; gives where the next sign stands.
     fn meaning(&mut self, x: f64, y: f64, words: &str) -> f64 {
         self.words(x + 4.0, y, "note", words);
-        x + 4.0 + 5.6 * words.len() as f64 + 18.0
+        x + 4.0 + 5.4 * words.len() as f64 + 22.0
     }
 }
