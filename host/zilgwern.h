@@ -3,9 +3,9 @@
  *
  * For recorders written in C or C++ that link target/staticlib/libstore.a (written by `rt staticlib store`).
  *
- * The library keeps nothing of its own between calls, allocates nothing and opens nothing. A store is the five pieces of
- * memory below and nothing else: to keep a store, keep these bytes; to copy it, copy them. Any contents are taken: what is
- * no sound store is refused by number, and a refused call changes nothing.
+ * The library keeps nothing of its own between calls, allocates nothing and opens nothing; it calls memcpy and memset. A
+ * store is the five pieces of memory below and nothing else: to keep a store, keep these bytes; to copy it, copy them. Any
+ * contents are taken: what is no sound store is refused by number, and a refused call changes nothing.
  *
  * Who calls must see to three things, which the library can't check:
  *   - every pointer is good for as many elements as its count says, and aligned as its type is;

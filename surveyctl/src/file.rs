@@ -82,7 +82,12 @@ impl StoreFile {
         if read(&name)? != self.kept {
             return Ok(false);
         }
-        replace(&name, bytes, held.metadata()?.permissions())?;
+        let permissions = held.metadata()?.permissions();
+        if permissions.readonly() {
+            // The folder would let it be replaced all the same.
+            return Err(io::Error::new(ErrorKind::PermissionDenied, "is read-only"));
+        }
+        replace(&name, bytes, permissions)?;
         Ok(true)
     }
 
@@ -142,7 +147,10 @@ fn replace(name: &Path, bytes: &[u8], permissions: Permissions) -> io::Result<()
     let beside = Path::new(&beside);
     // Left by a program that had the same number and came to a sudden end.
     let _ = fs::remove_file(beside);
-    write_new(beside, bytes, 0o600)?;
+    write_new(beside, bytes, 0o600).map_err(|error| {
+        let words = format!("the new file beside it can't be written: {error}");
+        io::Error::new(error.kind(), words)
+    })?;
     let done = fs::set_permissions(beside, permissions).and_then(|()| fs::rename(beside, name));
     if done.is_err() {
         let _ = fs::remove_file(beside);

@@ -117,7 +117,7 @@ fn any_bytes_are_taken_or_refused() {
         &["prompt"],
         &["replay", "-"],
     ];
-    let whole = [&ANSWERS[..], &long_list(2), b"put 5 A\nscan 1 2\ntidy all\nshow\n"];
+    let whole = [ANSWERS, &long_list(2), b"put 5 A\nscan 1 2\ntidy all\nshow\n"];
     let mut ends = [0; 5];
     for round in 0..350 {
         let mut bytes = whole[next() as usize % 3].repeat(1 + next() as usize % 3);

@@ -153,7 +153,8 @@ fn a_large_store_can_be_looked_at() {
     let mut list: Vec<u8> = Vec::new();
     for round in 0..3_000u64 {
         for at in 0..4 {
-            let key = (round * 7919 + at * 104_729) % 400 << 40 | (round * 65_537 + at) % 90_000;
+            let (line, metres) = ((round * 7919 + at * 104_729) % 400, (round * 65_537 + at) % 90);
+            let key = (line << 40) + 1000 * metres + round % 1000;
             list.extend([12, 0, 1, 0]);
             list.extend(key.to_le_bytes());
         }

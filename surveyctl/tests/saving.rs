@@ -37,7 +37,8 @@ fn a_full_disk_leaves_the_store_and_nothing_else() {
     ];
     for call in calls {
         let came = folder.shell(&format!("{FULL}; {call}; echo status $?"));
-        assert!(came.contains("surveyctl: s: File too large"), "{call}: {came}");
+        let told = "surveyctl: s: the new file beside it can't be written: File too large";
+        assert!(came.contains(told), "{call}: {came}");
         assert!(came.ends_with("status 4\n"), "{call}: {came}");
         // What is not kept is not told as done.
         assert!(!came.contains("done"), "{call}: {came}");
@@ -72,6 +73,22 @@ fn links_and_permissions_stay() {
     assert_eq!(folder.done(&["-s", "s", "get", "5"]), "after\n");
     assert_eq!(mode("s") & 0o777, 0o640);
     assert_eq!(names(&folder), ["link", "s"]);
+}
+
+#[test]
+fn a_file_or_folder_that_may_not_be_written_is_left_alone() {
+    let folder = with_store("read_only");
+    let before = folder.read("s");
+    std::fs::set_permissions(folder.path("s"), PermissionsExt::from_mode(0o444)).unwrap();
+    let Came { status, out, err } = folder.call(&["-s", "s", "put", "5", "after"]);
+    assert_eq!((status, out.as_str()), (4, ""), "{err}");
+    assert!(err.contains("s: is read-only"), "{err}");
+    assert_eq!(folder.done(&["-s", "s", "get", "5"]), "before\n");
+    // No file can be made beside this one, whoever asks.
+    let Came { status, out, err } = folder.call(&["-s", "/proc/self/new", "new"]);
+    assert_eq!((status, out.as_str()), (4, ""), "{err}");
+    assert!(folder.read("s") == before);
+    assert_eq!(names(&folder), ["s"]);
 }
 
 #[test]
