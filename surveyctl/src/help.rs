@@ -202,7 +202,7 @@ surveyctl [OPTIONS] replay [--progress] [--answers FILE] LIST
 Runs the requests of a binary file (- is standard input). It may be longer than
 one list: it is cut into lists of at most 65,536 bytes. A file that is broken
 is refused before anything is run. Progress is told on a terminal, or in any
-case with --progress.
+case with --progress. The file that --store names is written once, at the end.
 ",
     ),
     (

@@ -68,9 +68,10 @@ impl Paint {
         self.bar(x, y, &format!("fill=\"{colour}\"{edge}"), tip);
     }
 
-    /// A frozen table, a part of one, or a slice.
+    /// A frozen table, a part of one, or a slice. What waits is darker where it is narrow, so that it is seen.
     pub fn ice(&mut self, x: (f64, f64), y: (f64, f64), colour: &str, tip: &str) {
         let edge = if is_large(x.1, y.1) { 0.8 } else { 0.2 };
+        let colour = if x.1 < 4.0 && colour == FROZEN { EDGE } else { colour };
         let look = format!("fill=\"{colour}\" stroke=\"{EDGE}\" stroke-width=\"{edge}\"");
         self.bar(x, y, &look, tip);
     }
