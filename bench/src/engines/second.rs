@@ -1,0 +1,24 @@
+//! The second implementation: the same lists over the same memory.
+
+use crate::lists::{Runner, THRESHOLD};
+use reference::implementation::{Implementation, Reference};
+use reference::lent::Lent;
+
+pub struct Second;
+
+impl Runner for Second {
+    const NAME: &'static str = "second";
+
+    fn make(places: usize) -> Lent {
+        let mut lent = Lent::zeroed(places);
+        let number = Reference::default().make(&mut lent, THRESHOLD);
+        assert_eq!(number, 0, "{}: making a store", Self::NAME);
+        lent
+    }
+
+    fn run(&self, lent: &mut Lent, list: &[u8], answers: &mut [u8]) -> (usize, usize) {
+        let ran = Reference::default().run(lent, list, answers);
+        assert_eq!((ran.number, ran.letter), (0, 0), "{}: number and letter of a run", Self::NAME);
+        (ran.served, ran.written)
+    }
+}

@@ -1,0 +1,16 @@
+//! What the survey store costs, beside other stores on the same keys, all in one run. The answers are compared as well, so a run is
+//! also a test. See docs/PERFORMANCE.md.
+
+pub mod checks;
+pub mod clock;
+pub mod compare;
+pub mod engine;
+pub mod engines;
+pub mod lists;
+pub mod options;
+pub mod places;
+pub mod proved;
+pub mod report;
+pub mod rounds;
+pub mod upper;
+pub mod workload;

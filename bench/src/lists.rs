@@ -1,0 +1,232 @@
+//! The two survey stores as engines: request lists over lent memory, and the recorder's policy: put until the memory table holds 16
+//! keys, flush, and tidy as often as the last list needed it.
+
+use crate::engine::{Engine, SeeEntry, SeeValue, SCANNED};
+use crate::places::Steps;
+use crate::workload::{Key, Put};
+use reference::lent::{Lent, ROW_STATE, STATE_FREE};
+use reference::limits::{ANSWER_ROOM, LIST_BYTES, TABLE_ENTRIES};
+
+/// The threshold of all stores here.
+pub const THRESHOLD: u64 = 4;
+
+/// Tidies behind a flush: so many in the first list, and never more, so that 1,024 puts fit a list.
+const FIRST_TIDIES: usize = 4;
+const MOST_TIDIES: usize = 12;
+
+/// Runs a list on lent memory, answers at the front of the buffer: requests served and bytes written. A refused run ends the
+/// bench.
+pub trait Runner {
+    const NAME: &'static str;
+
+    fn make(places: usize) -> Lent;
+
+    fn run(&self, lent: &mut Lent, list: &[u8], answers: &mut [u8]) -> (usize, usize);
+}
+
+/// A store with its list and answer buffers, which are used again.
+pub struct Listed<R> {
+    runner: R,
+    lent: Lent,
+    list: Vec<u8>,
+    asked: usize,
+    answers: Vec<u8>,
+    /// Keys of the memory table: the recorder knows what it put since the last flush.
+    unflushed: Vec<Key>,
+    /// Tidies behind each flush.
+    tidies: usize,
+}
+
+/// What the replies of a list of puts, flushes and tidies say.
+#[derive(Default)]
+struct Done {
+    flushes: usize,
+    steps: usize,
+    idle: usize,
+}
+
+/// Appends a request: length, kind, body.
+#[inline]
+fn push(list: &mut Vec<u8>, kind: u16, key: Option<Key>, value: &[u8]) {
+    let length = 4 + 8 * key.iter().len() + value.len();
+    list.extend_from_slice(&(length as u16).to_le_bytes());
+    list.extend_from_slice(&kind.to_le_bytes());
+    if let Some(key) = key {
+        list.extend_from_slice(&key.to_le_bytes());
+    }
+    list.extend_from_slice(value);
+}
+
+fn pair(bytes: &[u8], at: usize) -> usize {
+    usize::from(u16::from_le_bytes([bytes[at], bytes[at + 1]]))
+}
+
+fn word(bytes: &[u8], at: usize) -> u64 {
+    u64::from_le_bytes(bytes[at..at + 8].try_into().expect("eight bytes"))
+}
+
+impl<R: Runner> Listed<R> {
+    pub fn new(runner: R, places: usize) -> Listed<R> {
+        Listed {
+            runner,
+            lent: R::make(places),
+            list: Vec::with_capacity(LIST_BYTES),
+            asked: 0,
+            answers: vec![0; ANSWER_ROOM],
+            unflushed: Vec::new(),
+            tidies: FIRST_TIDIES,
+        }
+    }
+
+    pub fn lent(&self) -> &Lent {
+        &self.lent
+    }
+
+    fn ask(&mut self, kind: u16, key: Option<Key>, value: &[u8]) {
+        push(&mut self.list, kind, key, value);
+        self.asked += 1;
+    }
+
+    /// Runs the list as it stands and empties it; the bytes of its replies, each at most so long.
+    fn run(&mut self, longest: usize) -> &[u8] {
+        assert!(self.list.len() <= LIST_BYTES, "a list of {} bytes", self.list.len());
+        let room = ANSWER_ROOM + self.asked * longest;
+        if self.answers.len() < room {
+            self.answers.resize(room, 0);
+        }
+        let (served, written) = self.runner.run(&mut self.lent, &self.list, &mut self.answers);
+        assert_eq!(served, self.asked, "{}: requests served", R::NAME);
+        self.list.clear();
+        self.asked = 0;
+        &self.answers[..written]
+    }
+
+    /// Puts and flushes must be done, and tidies too or find nothing to do: no other result may come.
+    fn run_writes(&mut self) -> Done {
+        let mut done = Done::default();
+        let mut replies = self.run(10);
+        while !replies.is_empty() {
+            let (whole, rest) = replies.split_at(pair(replies, 0));
+            match (pair(whole, 2), pair(whole, 4)) {
+                (1, 0) => {}
+                (5, 0) => done.flushes += 1,
+                (6, 0) => done.steps += 1,
+                (6, 65) => done.idle += 1,
+                (kind, result) => panic!("{}: a request of kind {kind} gives {result}", R::NAME),
+            }
+            replies = rest;
+        }
+        done
+    }
+
+    /// A put, after a flush with its tidies if the memory table is full of other keys.
+    pub fn ask_put(&mut self, key: Key, value: &[u8]) {
+        let known = self.unflushed.contains(&key);
+        if !known && self.unflushed.len() == TABLE_ENTRIES {
+            self.ask_flush();
+        }
+        if !known {
+            self.unflushed.push(key);
+        }
+        self.ask(1, Some(key), value);
+    }
+
+    fn ask_flush(&mut self) {
+        self.ask(5, None, &[]);
+        for _ in 0..self.tidies {
+            self.ask(6, None, &[]);
+        }
+        self.unflushed.clear();
+    }
+}
+
+impl<R: Runner> Engine for Listed<R> {
+    fn name(&self) -> &'static str {
+        R::NAME
+    }
+
+    fn put(&mut self, batch: &[Put]) {
+        for (key, value) in batch {
+            self.ask_put(*key, value);
+        }
+        let done = self.run_writes();
+        if done.flushes > 0 {
+            // As many as the last list needed on average, and one more.
+            self.tidies = (done.steps.div_ceil(done.flushes) + 1).min(MOST_TIDIES);
+        }
+    }
+
+    /// Tidies until there is nothing to do.
+    fn settle(&mut self) {
+        loop {
+            (0..64).for_each(|_| self.ask(6, None, &[]));
+            if self.run_writes().idle > 0 {
+                return;
+            }
+        }
+    }
+
+    fn look_up(&mut self, keys: &[Key], see: &mut SeeValue) {
+        keys.iter().for_each(|key| self.ask(3, Some(*key), &[]));
+        let mut replies = self.run(54);
+        while !replies.is_empty() {
+            let (whole, rest) = replies.split_at(pair(replies, 0));
+            match pair(whole, 4) {
+                0 => see(Some(&whole[6..])),
+                64 => see(None),
+                result => panic!("{}: a look-up gives {result}", R::NAME),
+            }
+            replies = rest;
+        }
+    }
+
+    fn scan(&mut self, from: &[Key], see: &mut SeeEntry) {
+        for low in from {
+            self.ask(4, Some(*low), &Key::MAX.to_le_bytes());
+        }
+        let mut replies = self.run(10 + SCANNED * 60);
+        let mut number = 0;
+        while !replies.is_empty() {
+            let (whole, rest) = replies.split_at(pair(replies, 0));
+            assert_eq!(pair(whole, 4), 0, "{}: result of a scan", R::NAME);
+            let mut entries = &whole[10..];
+            while !entries.is_empty() {
+                let (entry, others) = entries.split_at(pair(entries, 0));
+                see(number, word(entry, 4), &entry[12..]);
+                entries = others;
+            }
+            number += 1;
+            replies = rest;
+        }
+    }
+
+    fn nothing(&mut self) -> bool {
+        self.run(0);
+        true
+    }
+}
+
+impl<R: Runner> Steps for Listed<R> {
+    fn only_put(&mut self, batch: &[Put]) {
+        batch.iter().for_each(|(key, value)| self.ask(1, Some(*key), value));
+        self.run_writes();
+    }
+
+    fn flush(&mut self) {
+        self.ask(5, None, &[]);
+        self.run_writes();
+    }
+
+    fn tidy(&mut self) -> bool {
+        self.ask(6, None, &[]);
+        self.run_writes().steps > 0
+    }
+
+    fn area(&mut self) -> &mut [u8] {
+        &mut self.lent.area
+    }
+
+    fn is_free(&self, place: usize) -> bool {
+        self.lent.cards[place][ROW_STATE] == STATE_FREE
+    }
+}

@@ -1,0 +1,143 @@
+//! The words of the command line.
+
+use crate::engines::KINDS;
+use crate::rounds::Measure;
+
+pub const HELP: &str = "\
+run: what the survey store costs, beside other stores on the same keys, as a Markdown table
+
+usage: bench/run [OPTIONS]
+
+  --quick           the small store alone and few rounds: a look, no measurement
+  --seed N          other keys, values and orders (1)
+  --rounds N        rounds of each measure, medians are told (7)
+  --places P        one size of store alone: 4096 or 256
+  --only STORES     of zilgwern, second, btreemap, lmdb, leveldb, sqlite; with commas between
+  --measure NAMES   of put, hit, miss, scan, check, written; with commas between
+  --repeat N        look-ups and scans of a round so many times (1)
+  --plain           compare no answers and time no empty runs: for a profile of one store
+  --no-install      of bench/run: install no packages
+  -h, --help        this text
+
+The table goes to standard output, progress to standard error. LMDB, LevelDB and SQLite come from the Debian packages liblmdb0,
+libleveldb1d and libsqlite3-0; bench/run installs them where it may, and a store that is not there is left out with a word. All
+answers are compared with what was put: the status is 1 where one differs.
+";
+
+/// Sizes of stores, and how many keys fit when half of them are overwritten.
+pub const SIZES: [(usize, usize); 2] = [(4096, 25_000), (256, 1_500)];
+
+#[derive(Clone, PartialEq, Eq, Debug)]
+pub struct Options {
+    pub help: bool,
+    pub quick: bool,
+    pub plain: bool,
+    pub seed: u64,
+    pub rounds: usize,
+    pub repeats: usize,
+    pub sizes: Vec<(usize, usize)>,
+    /// Words of stores.
+    pub only: Vec<String>,
+    pub measures: Vec<Measure>,
+    pub check: bool,
+    pub written: bool,
+}
+
+impl Options {
+    pub fn of(words: &[String]) -> Result<Options, String> {
+        let mut options = Options {
+            help: false,
+            quick: false,
+            plain: false,
+            seed: 1,
+            rounds: 0,
+            repeats: 1,
+            sizes: Vec::new(),
+            only: KINDS.iter().map(|kind| kind.word.to_string()).collect(),
+            measures: Measure::ALL.to_vec(),
+            check: true,
+            written: true,
+        };
+        let mut words = words.iter();
+        while let Some(word) = words.next() {
+            let (name, joined) = match word.split_once('=') {
+                Some((name, value)) => (name, Some(value.to_string())),
+                None => (word.as_str(), None),
+            };
+            let mut value = || {
+                let value = joined.clone().or_else(|| words.next().cloned());
+                value.ok_or_else(|| format!("{name}: a word is missing behind it"))
+            };
+            options.take(name, &mut value)?;
+        }
+        options.fill();
+        Ok(options)
+    }
+
+    fn take(
+        &mut self,
+        name: &str,
+        value: &mut dyn FnMut() -> Result<String, String>,
+    ) -> Result<(), String> {
+        match name {
+            "-h" | "--help" => self.help = true,
+            "--quick" => self.quick = true,
+            "--plain" => self.plain = true,
+            "--no-install" => {}
+            "--seed" => self.seed = number(name, &value()?)? as u64,
+            "--rounds" => self.rounds = number(name, &value()?)?.max(1),
+            "--repeat" => self.repeats = number(name, &value()?)?.max(1),
+            "--places" => {
+                let places = number(name, &value()?)?;
+                let known = SIZES.into_iter().filter(|size| size.0 == places);
+                self.sizes = known.collect();
+                if self.sizes.is_empty() {
+                    return Err(format!("--places: {places} is neither 4096 nor 256"));
+                }
+            }
+            "--only" => self.only = stores(&value()?)?,
+            "--measure" => self.take_measures(&value()?)?,
+            _ => return Err(format!("{name}: no such option; see `bench/run --help`")),
+        }
+        Ok(())
+    }
+
+    fn take_measures(&mut self, words: &str) -> Result<(), String> {
+        (self.check, self.written) = (false, false);
+        self.measures.clear();
+        for word in words.split(',') {
+            let measure = Measure::ALL.into_iter().find(|measure| measure.word() == word);
+            match (word, measure) {
+                (_, Some(measure)) => self.measures.push(measure),
+                ("check", _) => self.check = true,
+                ("written", _) => self.written = true,
+                _ => return Err(format!("--measure: {word}: no such measure")),
+            }
+        }
+        Ok(())
+    }
+
+    /// What was not said.
+    fn fill(&mut self) {
+        if self.rounds == 0 {
+            self.rounds = if self.quick { 3 } else { 7 };
+        }
+        if self.sizes.is_empty() {
+            let quick: Vec<_> = SIZES.into_iter().filter(|size| size.0 == 256).collect();
+            self.sizes = if self.quick { quick } else { SIZES.to_vec() };
+        }
+    }
+}
+
+fn number(name: &str, word: &str) -> Result<usize, String> {
+    word.parse().map_err(|_| format!("{name}: {word} is not a whole number"))
+}
+
+fn stores(words: &str) -> Result<Vec<String>, String> {
+    let known = |word: &str| KINDS.iter().any(|kind| kind.word == word);
+    let unknown = words.split(',').find(|word| !known(word));
+    match unknown {
+        Some(word) => Err(format!("--only: {word}: no such store")),
+        None => Ok(words.split(',').map(str::to_string).collect()),
+    }
+}

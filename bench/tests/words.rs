@@ -1,0 +1,77 @@
+//! The command line and the tables.
+
+use bench::clock::timed;
+use bench::engines::KINDS;
+use bench::options::{Options, SIZES};
+use bench::places::Written;
+use bench::report::{figures, grouped, written};
+use bench::rounds::Measure;
+use std::hint::black_box;
+use std::thread::sleep;
+use std::time::Duration;
+
+fn options(words: &str) -> Result<Options, String> {
+    let words: Vec<String> = words.split_whitespace().map(str::to_string).collect();
+    Options::of(&words)
+}
+
+#[test]
+fn options_are_read() {
+    let all = options("").unwrap();
+    assert_eq!(
+        (all.seed, all.rounds, all.sizes, all.only.len()),
+        (1, 7, SIZES.to_vec(), KINDS.len())
+    );
+    assert!(all.check && all.written && all.measures == Measure::ALL);
+    let quick = options("--quick --seed=5").unwrap();
+    assert_eq!((quick.seed, quick.rounds, quick.sizes), (5, 3, vec![SIZES[1]]));
+    let one =
+        options("--only lmdb,zilgwern --measure scan,check --places 4096 --rounds 2").unwrap();
+    assert_eq!(
+        (one.only, one.measures),
+        (vec!["lmdb".into(), "zilgwern".into()], vec![Measure::Scan])
+    );
+    assert_eq!((one.check, one.written, one.sizes, one.rounds), (true, false, vec![SIZES[0]], 2));
+}
+
+#[test]
+fn wrong_words_are_named() {
+    for (words, named) in [
+        ("--fast", "--fast"),
+        ("--seed", "--seed"),
+        ("--seed x", "x"),
+        ("--places 100", "100"),
+        ("--only lmdb,rocks", "rocks"),
+        ("--measure get", "get"),
+    ] {
+        let error = options(words).unwrap_err();
+        assert!(error.contains(named), "{words}: {error}");
+    }
+}
+
+#[test]
+fn numbers_have_three_figures() {
+    let told = [0.01234, 0.9996, 1.234, 9.996, 12.34, 99.96, 1234.0].map(figures);
+    assert_eq!(told, ["0.012", "1.00", "1.23", "10.0", "12.3", "100", "1234"]);
+    assert_eq!(
+        [7, 999, 1000, 4096, 1234567].map(grouped),
+        ["7", "999", "1,000", "4,096", "1,234,567"]
+    );
+}
+
+#[test]
+fn a_table_is_markdown() {
+    let counted = Written { puts: 32, flushes: 2, tidies: 3, places: 8, most: 5 };
+    let table = written(&[("uniform".into(), "lower".into(), counted)]);
+    let lines: Vec<&str> = table.lines().collect();
+    assert_eq!(lines[1], "|---|---|---|---|---|---|");
+    assert_eq!(lines[2], "| uniform | lower | 0.250 | 4.00 | 5 | 1.50 |");
+}
+
+#[test]
+fn the_clock_counts_work_and_not_waiting() {
+    let waiting = timed(|| sleep(Duration::from_millis(300)));
+    let mut sum = 0u64;
+    let working = timed(|| (0..20_000_000).for_each(|number| sum = black_box(sum ^ number)));
+    assert!(working > waiting, "{working} us of work, {waiting} us of sleep");
+}
