@@ -81,10 +81,11 @@ fn times(options: &Options) -> Result<(), String> {
 
 fn check(options: &Options) {
     let largest = options.sizes.iter().map(|size| size.0).max().unwrap_or(0);
+    let second = options.only.iter().any(|word| word == "second");
     let sizes = checks::SIZES.into_iter().filter(|places| *places <= largest);
     let times = sizes.map(|places| {
         say(&format!("checks of {} places", grouped(places)));
-        check_times(options.seed, places, options.rounds * CHECKS)
+        check_times(options.seed, places, options.rounds * CHECKS, second)
     });
     println!("{}", report::checks(&times.collect::<Vec<_>>()));
 }

@@ -166,7 +166,9 @@ pub fn checks(all: &[CheckTimes]) -> String {
             grouped(times.links as usize),
             figures(times.proved),
             figures(times.proved * 1000.0 / times.places as f64),
-            format!("{} ({})", figures(times.second), figures(times.second / times.proved)),
+            times.second.map_or(String::new(), |second| {
+                format!("{} ({})", figures(second), figures(second / times.proved))
+            }),
         ]);
     }
     text
