@@ -20,8 +20,8 @@ use Rattle.ldc.proofs.Basics.Cases.{cases}
 use Rattle.ldc.proofs.Serving.Replies.{length-reply}
 use Rattle.read.specs.Reply.{replyHead, numbers}
 use Rattle.read.proofs.Written.{reply-written}
-use Rattle.compact.specs.Tidied.{Does}
-use Rattle.compact.specs.declared.Tidied.{Tidied}
+use Rattle.tidied.specs.Tidied.{Does}
+use Rattle.tidied.specs.declared.Tidied.{Tidied}
 use Rattle.steps.specs.Turn.{turn, turned}
 
 pub turn-same : {m m′ : Lent} {a a′ : List ℕ} {w w′ : ℕ} → m ≡ m′ → a ≡ a′ → w ≡ w′ → turn m a w ≡ turn m′ a′ w′

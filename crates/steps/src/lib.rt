@@ -16,7 +16,6 @@ ghost use Rattle.read.specs.Shown.{Kept};
 ghost use Rattle.writer.specs.Shown.{Wide};
 ghost use Rattle.steps.specs.Turn.{turn, turned};
 use book::head::Head;
-use compact::flush;
 
 // What serving gives: the head after it, and how many bytes the reply has.
 pub struct Turn {
@@ -51,7 +50,7 @@ pub fn flush_reply(
         ≡ turned 5 (serveFlush (storeOf (lent (now (area .entry)) (now (cards .entry)) (now (lists .entry)) (headWords head) (now (memory .entry))))) (now (answer .entry)) at
         ⌝ }
 {
-    let done = flush::flush(area, cards, lists, head, memory);
+    let done = compact::flush(area, cards, lists, head, memory);
     let after = done.head;
     Turn {
         head: after,

@@ -26,8 +26,8 @@ use Rattle.merger.specs.Merge.{tablesOut, bytesOut}
 use Rattle.merger.proofs.Merged.{tables-few}
 use Rattle.merger.proofs.Given.{tables-shown, tables-valid}
 use Rattle.book.specs.declared.head.Head.{Head}
-use Rattle.compact.specs.Tidied.{Does}
-use Rattle.compact.proofs.Given.{free-by}
+use Rattle.tidied.specs.Tidied.{Does}
+use Rattle.tidied.proofs.Given.{free-by}
 
 -- ---- the buffer
 

@@ -14,9 +14,9 @@ use Rattle.book.specs.Made.{lent}
 use Rattle.book.specs.Place.{freeRows}
 use Rattle.read.specs.Shown.{Kept}
 use Rattle.writer.proofs.Keeping.{shape-of, area-kept, cursor-kept}
-use Rattle.compact.proofs.Flushing.{flush-empty, flush-full, flush-place, flush-listing, flush-done}
-use Rattle.compact.proofs.flush.flush.Statement.{statement}
-use Rattle.compact.proofs.flush.flush.Tie as tie
+use Rattle.flush.proofs.Flushing.{flush-empty, flush-full, flush-place, flush-listing, flush-done}
+use Rattle.flush.proofs.flush.Statement.{statement}
+use Rattle.flush.proofs.flush.Tie as tie
 
 -- The memory as it was lent, what its types give, and that it is kept.
 abbrev found : tie.After-slice-known3 → Lent

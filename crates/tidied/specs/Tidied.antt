@@ -13,7 +13,7 @@ use Rattle.ldc.proofs.Steps.StepFacts.{Chosen}
 use Rattle.book.specs.Made.{lent}
 use Rattle.writer.specs.Shown.{Wide}
 use Rattle.graft.specs.Merge.{Backed}
-use Rattle.compact.specs.declared.Tidied.{Tidied}
+use Rattle.tidied.specs.declared.Tidied.{Tidied}
 
 -- Rows of 26 words, and some memory table with which all is kept. Which one stands beside the other pieces does not matter to a step.
 pub record Tidy (area : List ℕ) (cards : List (List ℕ)) (lists head : List ℕ) : Type 0 where

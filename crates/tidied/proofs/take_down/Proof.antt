@@ -9,9 +9,9 @@ use Rattle.book.specs.Made.{lent}
 use Rattle.writer.proofs.Keeping.{shape-of}
 use Rattle.graft.specs.Merge.{Backed}
 use Rattle.descend.specs.Down.{Ready}
-use Rattle.compact.proofs.Downs.{chosen-beside, does-down}
-use Rattle.compact.proofs.take_down.Statement.{statement}
-use Rattle.compact.proofs.take_down.Tie as tie
+use Rattle.tidied.proofs.Downs.{chosen-beside, does-down}
+use Rattle.tidied.proofs.take_down.Statement.{statement}
+use Rattle.tidied.proofs.take_down.Tie as tie
 
 -- With every memory table the pieces are ready for the step.
 ready : (c : tie.After-shared-slice-known)

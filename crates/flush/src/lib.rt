@@ -8,12 +8,16 @@ ghost use Rattle.book.specs.Head.{headWords};
 ghost use Rattle.book.specs.Made.{lent};
 ghost use Rattle.read.specs.Shown.{Kept};
 ghost use Rattle.writer.specs.Shown.{Wide};
-use crate::DONE;
-use crate::NO_ROOM;
-use crate::NOTHING_TO_DO;
 use book::head::Head;
 use writer::level;
 use writer::taking;
+
+// The results: done, no room, nothing to do.
+const DONE: u16 = 0;
+
+const NO_ROOM: u16 = 20;
+
+const NOTHING_TO_DO: u16 = 65;
 
 // What a flush gives: its result, and the head after it.
 pub struct Flushed {

@@ -13,7 +13,7 @@ use Rattle.ldc.proofs.Steps.StepFacts.{Chosen}
 use Rattle.book.specs.Made.{lent}
 use Rattle.book.specs.declared.head.Head.{Head}
 use Rattle.descend.specs.Down.{stepNumber}
-use Rattle.compact.specs.Tidied.{Does}
+use Rattle.tidied.specs.Tidied.{Does}
 
 pub chosen-beside : (area : List ℕ) (cards : List (List ℕ)) (lists head memory other : List ℕ) (n p : ℕ)
     → Chosen (storeOf (lent area cards lists head memory)) n p → Chosen (storeOf (lent area cards lists head other)) n p

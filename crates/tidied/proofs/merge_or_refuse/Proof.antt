@@ -9,10 +9,10 @@ use Rattle.ldc.specs.Lent.{Lent}
 use Rattle.book.specs.Head.{headWords}
 use Rattle.book.specs.Made.{lent}
 use Rattle.read.specs.Shown.{Tabled, Legible}
-use Rattle.compact.proofs.Given.{same, levels, tabled}
-use Rattle.compact.proofs.Merges.{nine, built, many, roomy, does-refused, does-merged}
-use Rattle.compact.proofs.merge_or_refuse.Statement.{statement}
-use Rattle.compact.proofs.merge_or_refuse.Tie as tie
+use Rattle.tidied.proofs.Given.{same, levels, tabled}
+use Rattle.tidied.proofs.Merges.{nine, built, many, roomy, does-refused, does-merged}
+use Rattle.tidied.proofs.merge_or_refuse.Statement.{statement}
+use Rattle.tidied.proofs.merge_or_refuse.Tie as tie
 
 slice-aggregate-merge-into : tie.Need-slice-aggregate-merge-into
 slice-aggregate-merge-into c = search needs
