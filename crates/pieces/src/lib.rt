@@ -2,7 +2,7 @@
 ghost use mathlib.Core.Path.{_≡_};
 ghost use Prim.Native.Nat.{_≤_};
 ghost use lib.ListN.{length};
-ghost use Rattle.history.specs.Pieces.{startOf, endGood, Runs};
+ghost use Rattle.pieces.specs.Pieces.{startOf, endGood, Runs};
 
 // Piece k begins where the piece before ends.
 pub fn start(ends: &[usize], k: usize) -> usize

@@ -14,10 +14,10 @@ use Rattle.ldc.specs.Request.{Request}
 use Rattle.ldc.specs.Run.{Outcome, split, run}
 use Rattle.ldc.specs.History.{Call, Event, repliesAt, paired, eventsOf, events, lentAfter}
 use Rattle.ldc.proofs.Basics.Cases.{cases}
-use Rattle.history.specs.Pieces.{Pieces, pieces, startOf, piece, callAt, callsIn, eventsAt, eventsIn, notedIn}
-use Rattle.history.specs.Performs.{outcomeAt, RanOne, Ran}
-use Rattle.history.proofs.Starts.{starts-rise}
-use Rattle.history.proofs.Added.{lent-added, events-added, served-added, answer-length}
+use Rattle.pieces.specs.Pieces.{Pieces, pieces, startOf, piece, callAt, callsIn, eventsAt, eventsIn, notedIn}
+use Rattle.pieces.specs.Performs.{outcomeAt, RanOne, Ran}
+use Rattle.pieces.proofs.Starts.{starts-rise}
+use Rattle.pieces.proofs.Added.{lent-added, events-added, served-added, answer-length}
 
 -- ---- parts of pieces
 

@@ -1,8 +1,8 @@
 -- `start` meets its contract.
 use borrow.Author.Needs.{needs}
-use Rattle.history.proofs.Starts.{start-behind}
-use Rattle.history.proofs.cut.start.Statement.{statement}
-use Rattle.history.proofs.cut.start.Tie as tie
+use Rattle.pieces.proofs.Starts.{start-behind}
+use Rattle.pieces.proofs.start.Statement.{statement}
+use Rattle.pieces.proofs.start.Tie as tie
 
 returns : tie.Need-returns
 returns c = search needs

@@ -7,10 +7,10 @@ use borrow.Author.Needs.{needs}
 use borrow.Author.Tests.{eqb-true, eqb-false, not-true, not-false}
 use lib.Dec.{eqb}
 use Rattle.ldc.proofs.Basics.Cases.{cases}
-use Rattle.history.specs.Pieces.{endGood, ready}
-use Rattle.history.proofs.Starts.{ready-full, ready-test}
-use Rattle.history.proofs.cut.runs.Statement.{statement}
-use Rattle.history.proofs.cut.runs.Tie as tie
+use Rattle.pieces.specs.Pieces.{endGood, ready}
+use Rattle.pieces.proofs.Starts.{ready-full, ready-test}
+use Rattle.pieces.proofs.runs.Statement.{statement}
+use Rattle.pieces.proofs.runs.Tie as tie
 
 abbrev Inv-loop : tie.InvT-loop
 Inv-loop size ends space stops room k₀ k = (k ≤ room) × ((j : ℕ) → j < k → ready size ends space stops room j ≡ true)

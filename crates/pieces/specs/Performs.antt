@@ -8,7 +8,7 @@ use Rattle.ldc.specs.Store.{newStore}
 use Rattle.ldc.specs.Lent.{Lent, placesIn}
 use Rattle.ldc.specs.Run.{Outcome, run, make}
 use Rattle.ldc.specs.History.{events, lentAfter, servedIn, requestsIn, unmerged, Holds}
-use Rattle.history.specs.Pieces.{Pieces, startOf, piece, Runs, callAt, callsIn, eventsIn, notedIn}
+use Rattle.pieces.specs.Pieces.{Pieces, startOf, piece, Runs, callAt, callsIn, eventsIn, notedIn}
 
 -- What the definition says of run k on memory `m`.
 unfoldable pub outcomeAt : Lent → Pieces → (k : ℕ) → Outcome

@@ -8,7 +8,7 @@ use borrow.Author.Tests.{ltb-true, leb-true, eqb-true, eqb-false, lt-ltb, le-ltb
 use lib.Dec.{leb, ltb, eqb}
 use lib.ListN.{length, getD}
 use Rattle.ldc.proofs.Basics.Cases.{cases, both-left, both-right}
-use Rattle.history.specs.Pieces.{startOf, endGood, ready}
+use Rattle.pieces.specs.Pieces.{startOf, endGood, ready}
 
 -- Behind the first piece, a piece begins where the one before ends.
 pub start-behind : (ends : List ℕ) (k : ℕ) → (k ≡ 0 → ⊥) → getD ends (k - 1) 0 ≡ startOf ends k

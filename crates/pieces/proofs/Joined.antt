@@ -17,8 +17,8 @@ use Rattle.ldc.specs.History.{Call, Event, events, lentAfter, requestsIn, unmer
 use Rattle.ldc.proofs.Basics.Cases.{cases}
 use Rattle.ldc.proofs.Demand.Demand3.{demand3}
 use Rattle.book.specs.Made.{made}
-use Rattle.history.specs.Pieces.{Pieces, startOf, piece, Runs, callAt, callsIn, eventsIn}
-use Rattle.history.specs.Performs.{Ran, Joined, Performs}
+use Rattle.pieces.specs.Pieces.{Pieces, startOf, piece, Runs, callAt, callsIn, eventsIn}
+use Rattle.pieces.specs.Performs.{Ran, Joined, Performs}
 
 -- ---- bytes
 

@@ -5,9 +5,9 @@ use mathlib.Core.Bool.{_&&_}
 use borrow.Author.Needs.{needs}
 use lib.Dec.{leb}
 use lib.ListN.{getD}
-use Rattle.history.proofs.Starts.{good-short, good-there}
-use Rattle.history.proofs.cut.is_good.Statement.{statement}
-use Rattle.history.proofs.cut.is_good.Tie as tie
+use Rattle.pieces.proofs.Starts.{good-short, good-there}
+use Rattle.pieces.proofs.is_good.Statement.{statement}
+use Rattle.pieces.proofs.is_good.Tie as tie
 
 returns : tie.Need-returns
 returns c =
