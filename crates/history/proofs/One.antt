@@ -9,9 +9,9 @@ use Rattle.number.proofs.Sets.{sets-back}
 use Rattle.ldc.specs.Lent.{Lent}
 use Rattle.ldc.specs.Run.{Outcome, run}
 use Rattle.serving.specs.Ran.{ran}
-use Rattle.history.specs.Pieces.{pieces, startOf, piece, callAt}
-use Rattle.history.specs.Performs.{outcomeAt, RanOne}
-use Rattle.history.proofs.Starts.{Ends}
+use Rattle.pieces.specs.Pieces.{pieces, startOf, piece, callAt}
+use Rattle.pieces.specs.Performs.{outcomeAt, RanOne}
+use Rattle.pieces.proofs.Starts.{Ends}
 
 module _ (m : Lent) (input ends answers stops served : List ℕ) (k from first : ℕ) (ef : from ≡ startOf ends k) (es : first ≡ startOf stops k) where
   abbrev list : List ℕ

@@ -4,10 +4,8 @@ ghost use mathlib.Core.Path.{_≡_};
 ghost use mathlib.Core.Bool.{true};
 ghost use lib.ListN.{length};
 ghost use Rattle.book.specs.Made.{lent};
-ghost use Rattle.history.specs.Pieces.{pieces, ready, Runs};
-ghost use Rattle.history.specs.Performs.{RanOne, Ran, Performs};
-
-pub mod cut;
+ghost use Rattle.pieces.specs.Pieces.{pieces, ready, Runs};
+ghost use Rattle.pieces.specs.Performs.{RanOne, Ran, Performs};
 
 // What a history returns: the number of making the store, and how many runs were performed.
 pub struct Done {
@@ -39,9 +37,9 @@ fn run_one(
         (pieces (now (input .entry)) (now (ends .entry)) (now (answers .exit)) (now (stops .entry)) (now (served .exit)))
         ⌝ }
 {
-    let from = cut::start(ends, k);
+    let from = pieces::start(ends, k);
     let end = ends[k];
-    let first = cut::start(stops, k);
+    let first = pieces::start(stops, k);
     let stop = stops[k];
     let done = run::run(
         area,
@@ -130,7 +128,7 @@ pub fn perform(
     if number != 0 {
         return Done { number, runs: 0 };
     }
-    let n = cut::runs(input.len(), ends, answers.len(), stops, served.len());
+    let n = pieces::runs(input.len(), ends, answers.len(), stops, served.len());
     run_all(
         area,
         cards,

@@ -11,10 +11,9 @@ ghost use Rattle.book.specs.Head.{headWords};
 ghost use Rattle.book.specs.Made.{lent};
 ghost use Rattle.read.specs.Shown.{Kept};
 ghost use Rattle.writer.specs.Shown.{Wide};
-ghost use Rattle.serve.specs.Turn.{turn, turned};
+ghost use Rattle.steps.specs.Turn.{turn, turned};
 use book::head::Head;
-use serve::dispatch;
-use serve::steps::Turn;
+use steps::Turn;
 
 // Serves the request that stands at a position of the list, and writes its reply.
 pub fn serve_next(
@@ -42,7 +41,7 @@ pub fn serve_next(
     let kind = entry::kind_at(list, at);
     let start = at + requests::REQUEST_HEAD;
     let end = at + entry::length_at(list, at) as usize;
-    dispatch::serve(
+    serve::serve(
         area,
         cards,
         lists,

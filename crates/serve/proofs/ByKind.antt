@@ -17,7 +17,7 @@ use Rattle.ldc.specs.Read.{serveLookUp, serveScan, serveReport}
 use Rattle.ldc.specs.Steps.{serveTidy}
 use Rattle.ldc.specs.Serve.{serveKind, serve}
 use Rattle.ldc.proofs.Basics.Cases.{cases}
-use Rattle.serve.specs.Turn.{request}
+use Rattle.steps.specs.Turn.{request}
 
 -- The test of the code before it looks at the kind.
 abbrev pub good : (kind len : ℕ) → Bool

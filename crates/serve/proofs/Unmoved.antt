@@ -29,8 +29,8 @@ use Rattle.read.specs.Shown.{Kept}
 use Rattle.read.specs.Tally.{Counts}
 use Rattle.read.specs.Reply.{replied}
 use Rattle.read.proofs.Pieces.{row-eight, length-fits}
-use Rattle.serve.specs.Turn.{turn, turned}
-use Rattle.serve.proofs.Turns.{turn-same, turn-bare}
+use Rattle.steps.specs.Turn.{turn, turned}
+use Rattle.steps.proofs.Turns.{turn-same, turn-bare}
 
 pub scan-store : (s : Store) (low high : ℕ) → serveScan s low high .store ≡ s
 unfolding serveScan

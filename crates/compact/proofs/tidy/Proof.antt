@@ -14,7 +14,7 @@ use Rattle.plan.specs.Plan.{planOf, named}
 use Rattle.plan.specs.declared.Plan.{Plan}
 use Rattle.plan.proofs.Plans.{Planned, plan-named, plan-tells}
 use Rattle.plan.proofs.Given.{shows}
-use Rattle.compact.proofs.Given.{sound, same, levels}
+use Rattle.tidied.proofs.Given.{sound, same, levels}
 use Rattle.compact.proofs.tidy.Statement.{statement}
 use Rattle.compact.proofs.tidy.Tie as tie
 

@@ -4,8 +4,8 @@ use native.Mathlib.Omega.{arith}
 use borrow.Author.Needs.{needs}
 use Rattle.number.specs.Number.{Bytes}
 use Rattle.book.specs.Made.{lent}
-use Rattle.history.specs.Pieces.{pieces}
-use Rattle.history.proofs.Joined.{performed, refused}
+use Rattle.pieces.specs.Pieces.{pieces}
+use Rattle.pieces.proofs.Joined.{performed, refused}
 use Rattle.history.proofs.perform.Statement.{statement}
 use Rattle.history.proofs.perform.Tie as tie
 

@@ -4,10 +4,10 @@ use mathlib.Core.Path.{_≡_, refl, _∙_}
 use native.Mathlib.Omega.{arith}
 use lib.ListN.{length}
 use Rattle.book.specs.Made.{lent}
-use Rattle.history.specs.Pieces.{pieces}
-use Rattle.history.specs.Performs.{Ran}
-use Rattle.history.proofs.Starts.{Ends, ready-room, ready-buffer}
-use Rattle.history.proofs.Turn.{ran-none, ran-more}
+use Rattle.pieces.specs.Pieces.{pieces}
+use Rattle.pieces.specs.Performs.{Ran}
+use Rattle.pieces.proofs.Starts.{Ends, ready-room, ready-buffer}
+use Rattle.pieces.proofs.Turn.{ran-none, ran-more}
 use Rattle.history.proofs.run_all.Statement.{statement}
 use Rattle.history.proofs.run_all.Tie as tie
 

@@ -8,7 +8,7 @@ use lib.ListN.{length, getD, take, drop, length-set}
 use lib.Seq.{length-sets}
 use Rattle.number.proofs.Sets.{length-part, sets-back}
 use Rattle.book.specs.Made.{lent}
-use Rattle.history.proofs.Starts.{Ends, ready-room, ready-list, ready-buffer}
+use Rattle.pieces.proofs.Starts.{Ends, ready-room, ready-list, ready-buffer}
 use Rattle.history.proofs.One.{ran-one}
 use Rattle.history.proofs.run_one.Statement.{statement}
 use Rattle.history.proofs.run_one.Tie as tie

@@ -13,7 +13,7 @@ use Rattle.ldc.specs.Run.{requestAt}
 use Rattle.book.specs.Head.{headWords}
 use Rattle.book.specs.Made.{lent}
 use Rattle.requests.proofs.Splits.{whole-fits}
-use Rattle.serve.specs.Turn.{request, turned}
+use Rattle.steps.specs.Turn.{request, turned}
 use Rattle.next.proofs.serve_next.Statement.{statement}
 use Rattle.next.proofs.serve_next.Tie as tie
 

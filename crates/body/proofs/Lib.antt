@@ -1,0 +1,3 @@
+-- The laws of `body`.
+--   Bodies   lengths of bodies, kind by kind
+pub mod Bodies

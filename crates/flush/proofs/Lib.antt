@@ -1,0 +1,3 @@
+-- The laws of `flush`.
+--   Flushing   what a flush leaves
+pub mod Flushing

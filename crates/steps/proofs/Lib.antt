@@ -1,0 +1,3 @@
+-- The laws of `steps`.
+--   Turns   what serving leaves, from its parts; flush and tidy
+pub mod Turns
