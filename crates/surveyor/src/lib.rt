@@ -1,4 +1,4 @@
-// The program `survey` as a function that small programs share: a new store of 32 places with threshold 4 runs standard input.
+// The program `survey` as a function: a new store of 32 places with threshold 4 runs standard input.
 ghost use Rattle.surveyor.specs.Whole.{Told};
 
 pub mod deliver;
