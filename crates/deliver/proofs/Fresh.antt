@@ -19,7 +19,7 @@ use Rattle.ldc.proofs.Stores.New as New
 use Rattle.ldc.proofs.Basics.ListLaws.{parts, length-parts, each-part}
 use Rattle.ldc.proofs.Lent.Round.{chop-parts}
 use Rattle.book.specs.Made.{made}
-use Rattle.surveyor.specs.Whole.{newOne}
+use Rattle.deliver.specs.Whole.{newOne}
 
 module _ (t n : ℕ) (area : List ℕ) (l : length area ≡ n * placeSize) where
   places : length (chop n area) ≡ n

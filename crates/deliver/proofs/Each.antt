@@ -17,7 +17,7 @@ use Rattle.ldc.proofs.Serving.Splits.{Sent}
 use Rattle.ldc.proofs.Serving.Keeps.{keeps}
 use Rattle.ldc.proofs.Serving.KeepsWhole.{whole-keeps}
 use Rattle.ldc.proofs.Serving.Replies.{reply-short}
-use Rattle.surveyor.specs.Whole.{serveEach}
+use Rattle.deliver.specs.Whole.{serveEach}
 
 -- ---- a run
 

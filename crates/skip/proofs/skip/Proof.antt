@@ -1,9 +1,9 @@
 -- `skip` meets its contract. The loop's invariant: behind those still to be passed the same requests are left.
 use native.Mathlib.Omega.{arith}
 use borrow.Author.Needs.{needs}
-use Rattle.surveyor.proofs.Behind.{Passed, passed-start, passed-fits, passed-turn, passed-end}
-use Rattle.surveyor.proofs.skip.skip.Statement.{statement}
-use Rattle.surveyor.proofs.skip.skip.Tie as tie
+use Rattle.skip.proofs.Behind.{Passed, passed-start, passed-fits, passed-turn, passed-end}
+use Rattle.skip.proofs.skip.Statement.{statement}
+use Rattle.skip.proofs.skip.Tie as tie
 
 abbrev Inv-loop : tie.InvT-loop
 Inv-loop list count at₀ left₀ at left = Passed list count at left

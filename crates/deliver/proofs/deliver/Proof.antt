@@ -10,9 +10,9 @@ use lib.Seq.{length-take-le}
 use Rattle.book.specs.Made.{lent}
 use Rattle.cards.specs.Card.{rowsOf}
 use Rattle.serving.specs.Ran.{requestsIn}
-use Rattle.surveyor.proofs.Along.{Along, Stretch, along-start, part-rest, along-refused, along-room, along-piece, along-ready, along-some, along-on, along-at, along-count, along-bytes, along-failed, along-end}
-use Rattle.surveyor.proofs.deliver.deliver.Statement.{statement}
-use Rattle.surveyor.proofs.deliver.deliver.Tie as tie
+use Rattle.deliver.proofs.Along.{Along, Stretch, along-start, part-rest, along-refused, along-room, along-piece, along-ready, along-some, along-on, along-at, along-count, along-bytes, along-failed, along-end}
+use Rattle.deliver.proofs.deliver.Statement.{statement}
+use Rattle.deliver.proofs.deliver.Tie as tie
 
 abbrev Inv-loop : tie.InvT-loop
 Inv-loop fd area₀ rows₀ lists₀ head₀ memory₀ list answer₀ cards₀ at₀ served₀ written₀ area rows lists head memory answer cards at served written =

@@ -3,8 +3,7 @@ ghost use mathlib.Core.Path.{_≡_};
 ghost use Rattle.ldc.specs.Lent.{lentOf};
 ghost use Rattle.book.specs.Made.{lent};
 ghost use Rattle.cards.specs.Card.{rowsOf};
-ghost use Rattle.surveyor.specs.Whole.{newOne, Piece, Finished};
-use crate::skip;
+ghost use Rattle.deliver.specs.Whole.{newOne, Piece, Finished};
 use cards::Card;
 
 // What became of a list: the number of its run, how many requests were served, how many bytes of answers were handed on, and whether

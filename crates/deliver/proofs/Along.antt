@@ -22,10 +22,10 @@ use Rattle.ldc.proofs.Serving.Keeps.{keeps}
 use Rattle.ldc.proofs.Serving.Events.{events-fit}
 use Rattle.ldc.proofs.Serving.Runs.{run-unsplit, run-served}
 use Rattle.serving.specs.Ran.{ran, requestsIn}
-use Rattle.surveyor.specs.Whole.{newOne, serveEach, firstOf, answersOf, Piece, Finished}
-use Rattle.surveyor.proofs.Each.{all-each, all-few, all-some, each-store, each-bytes, AllSent, each-keeps, each-short, enough}
-use Rattle.surveyor.proofs.Behind.{split-short, split-few, split-some}
-use Rattle.surveyor.proofs.Fresh.{sound-one, whole-one}
+use Rattle.deliver.specs.Whole.{newOne, serveEach, firstOf, answersOf, Piece, Finished}
+use Rattle.deliver.proofs.Each.{all-each, all-few, all-some, each-store, each-bytes, AllSent, each-keeps, each-short, enough}
+use Rattle.skip.proofs.Behind.{split-short, split-few, split-some}
+use Rattle.deliver.proofs.Fresh.{sound-one, whole-one}
 
 -- ---- the requests of a list of bytes
 
