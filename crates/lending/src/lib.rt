@@ -10,8 +10,8 @@ ghost use Rattle.serving.specs.Ran.{ran};
 ghost use Rattle.cards.specs.Card.{rowsOf};
 ghost use Rattle.lending.specs.Over.{Over};
 use cards::Card;
-use sound::Checked;
 use run::Ran;
+use sound::Checked;
 
 // Makes a new store: 0, or 1 for sizes, or 2 for a threshold outside 1 to 8.
 pub fn make(
