@@ -1,10 +1,5 @@
-// The program `survey` as a function that small programs share: a new store of 32 places with threshold 4 runs standard input.
-ghost use Rattle.surveyor.specs.Whole.{Told};
-
-pub mod deliver;
-pub mod input;
-pub mod skip;
-
+// The program `survey` as a function: a new store of 32 places with threshold 4 runs standard input.
+ghost use Rattle.deliver.specs.Whole.{Told};
 use deliver::Delivered;
 use libc::STDIN_FILENO;
 use libc::STDOUT_FILENO;

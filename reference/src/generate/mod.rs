@@ -7,7 +7,6 @@ pub mod full;
 pub mod keys;
 pub mod planted;
 pub mod profile;
-pub mod programs;
 pub mod random;
 pub mod requests;
 pub mod vectors;

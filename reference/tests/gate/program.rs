@@ -2,17 +2,14 @@
 
 use crate::build::new_lent;
 use crate::common::announce;
-use reference::generate::programs::{programs, SEED};
 use reference::generate::requests::{flush, put, scan};
 use reference::generate::vectors::vectors;
 use reference::lent::Lent;
 use reference::limits::LIST_BYTES;
-use reference::program::{follow, survey};
-use reference::reached::Reached;
+use reference::program::survey;
 use reference::request::split;
 use reference::run::run;
 use std::io::Write;
-use std::path::Path;
 use std::process::{Command, Stdio};
 
 /// What the program writes, worked out with another room for answers.
@@ -95,51 +92,4 @@ fn the_built_program_writes_the_same() {
         assert_eq!(run_binary(&vector.requests), survey(&vector.requests), "{}", vector.name);
     }
     assert_eq!(run_binary(&vec![4; 1 << 20]), Vec::<u8>::new());
-}
-
-/// The proved programs are checked against these files, so they must be what the generator writes.
-#[test]
-fn the_small_programs_have_the_files_of_their_lists() {
-    let crates = Path::new(env!("CARGO_MANIFEST_DIR")).join("../crates");
-    for program in programs(SEED) {
-        let read = |file| std::fs::read(crates.join(&program.name).join(file)).unwrap_or_default();
-        assert!(read("stdin") == program.requests, "{}/stdin", program.name);
-        assert!(read("stdout") == survey(&program.requests), "{}/stdout", program.name);
-    }
-}
-
-#[test]
-fn the_small_programs_reach_every_kind_and_result() {
-    let mut names: Vec<String> = (1..8).map(|kind| format!("kind {kind} done")).collect();
-    names.extend([16, 17, 18, 19, 64].map(|result| format!("result {result}")));
-    let others = [
-        "20 by a flush",
-        "20 by a due merge",
-        "kind 5 with nothing to do",
-        "kind 6 with nothing to do",
-        "key 0 put",
-        "key 2^64 - 1 put",
-        "a value overwritten",
-        "a value deleted",
-        "scan of 16 with more",
-        "scan of exactly 16",
-        "moved from 0",
-        "moved from 1",
-        "linked from 0",
-        "linked from 1",
-        "due merge on 1",
-        "due merge on 2",
-        "merge into several tables",
-        "run refused with 4",
-    ];
-    names.extend(others.map(String::from));
-    let (mut reached, mut stops) = (Reached::requiring(names), 0);
-    for program in programs(SEED) {
-        let told = follow(&program.requests).expect("the judge finds nothing wrong");
-        assert_eq!(told.written, survey(&program.requests).len(), "{}", program.name);
-        reached.add(&told.reached);
-        stops += told.stops;
-    }
-    assert_eq!(reached.missing(), Vec::<&str>::new());
-    assert!(stops > 30);
 }

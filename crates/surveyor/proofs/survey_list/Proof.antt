@@ -8,7 +8,7 @@ use Rattle.surveyor.proofs.survey_list.Tie as tie
 use Rattle.links.proofs.RowLaws.{blank}
 use Rattle.book.specs.Made.{lent}
 use Rattle.cards.proofs.Words.{rows-length}
-use Rattle.surveyor.proofs.Fresh.{made-one}
+use Rattle.deliver.proofs.Fresh.{made-one}
 
 card-of-requires : tie.Need-card-of-requires
 card-of-requires c κs = search needs

@@ -1,0 +1,3 @@
+-- The laws of `skip`.
+--   Behind   the list behind its first requests
+pub mod Behind

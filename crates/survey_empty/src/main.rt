@@ -1,4 +1,0 @@
-// The program `survey` on an empty list: nothing is written.
-fn main() {
-    surveyor::survey();
-}
