@@ -3,11 +3,11 @@
 // Each turn asks for the nearest entry from a point on, which decides on its key, so the cost follows the values given and the delete marks
 // passed.
 ghost use mathlib.Core.Path.{_≡_};
+ghost use mathlib.Core.Option.{some};
 ghost use Prim.Native.Nat.{_+_, _≤_};
 ghost use lib.ListN.{length};
 ghost use lib.Seq.{sets};
 ghost use Rattle.table.specs.Limits.{placeSize, entryLimit};
-ghost use mathlib.Core.Option.{some};
 ghost use Rattle.table.specs.Entry.{Entry, entryAt, entryBytes};
 ghost use Rattle.ldc.specs.Store.{within};
 ghost use Rattle.ldc.specs.Lent.{storeOf};
