@@ -2,8 +2,8 @@
 ghost use mathlib.Core.Path.{_≡_};
 ghost use Prim.Native.Nat.{_+_, _*_, _≤_};
 ghost use lib.ListN.{length};
-ghost use Rattle.table.specs.Limits.{placeSize};
-ghost use Rattle.table.specs.Entry.{kindAt};
+ghost use Rattle.table.specs.Limits.{placeSize, entryHead};
+ghost use Rattle.table.specs.Entry.{kindAt, keyAt};
 ghost use Rattle.table.specs.Table.{entries, placeAt};
 ghost use Rattle.table.specs.Search.{findIn, leastKey, greatestKey};
 ghost use Rattle.read.specs.Shown.{Tabled};
@@ -49,4 +49,14 @@ pub fn kind(area: &[u8], p: usize, at: usize) -> u16
     let start = p * limits::PLACE_SIZE;
     let end = start + limits::PLACE_SIZE;
     entry::kind_at(&area[start..end], at)
+}
+
+// The key of the entry at a position.
+pub fn key_of(area: &[u8], p: usize, at: usize) -> Key
+    requires { ⌜ (p * placeSize + placeSize ≤ length (now area)) × (at + entryHead ≤ placeSize) ⌝ }
+    ensures { λ r. ⌜ r .value ≡ keyAt (placeAt (p * placeSize) (now (area .entry))) at ⌝ }
+{
+    let start = p * limits::PLACE_SIZE;
+    let end = start + limits::PLACE_SIZE;
+    entry::key_at(&area[start..end], at)
 }

@@ -16,12 +16,12 @@ use Rattle.read.specs.declared.look.Spot.the-variants.{Memory, Place, Nothing}
 use Rattle.key.specs.declared.Key.{Key}
 
 module _ (area memory : List ℕ) where
-  none-there : (o : Option Entry) (p : Spot) → Spots area memory o p → isThere p ≡ false → o ≡ none
+  pub none-there : (o : Option Entry) (p : Spot) → Spots area memory o p → isThere p ≡ false → o ≡ none
   none-there o (Memory at) t h = clash refl h
   none-there o (Place q at) t h = clash refl h
   none-there o Nothing t h = sym (t .shown)
 
-  some-there : (o : Option Entry) (p : Spot) → Spots area memory o p → isThere p ≡ true → (e : Entry) × (o ≡ some e)
+  pub some-there : (o : Option Entry) (p : Spot) → Spots area memory o p → isThere p ≡ true → (e : Entry) × (o ≡ some e)
   some-there o (Memory at) t h = (_, sym (t .shown))
   some-there o (Place q at) t h = (_, sym (t .shown))
   some-there o Nothing t h = clash h refl

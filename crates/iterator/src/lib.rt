@@ -1,13 +1,14 @@
 // The values of a store one after the other, keys rising: the next one from a key on, and its entry copied.
 //
-// Each turn asks for the least key from a point on and for that key's deciding entry, so the cost follows the values given and the
-// delete marks passed.
+// Each turn asks for the nearest entry from a point on, which decides on its key, so the cost follows the values given and the delete marks
+// passed.
 ghost use mathlib.Core.Path.{_≡_};
+ghost use mathlib.Core.Option.{some};
 ghost use Prim.Native.Nat.{_+_, _≤_};
 ghost use lib.ListN.{length};
 ghost use lib.Seq.{sets};
 ghost use Rattle.table.specs.Limits.{placeSize, entryLimit};
-ghost use Rattle.table.specs.Entry.{entryAt, entryBytes};
+ghost use Rattle.table.specs.Entry.{Entry, entryAt, entryBytes};
 ghost use Rattle.ldc.specs.Store.{within};
 ghost use Rattle.ldc.specs.Lent.{storeOf};
 ghost use Rattle.ldc.specs.Read.{contents};
@@ -20,7 +21,6 @@ ghost use Rattle.iterator.specs.Next.{valued, isThere, maybeBytes, Nexts
 ghost use Rattle.least.specs.Least.{firstOf};
 use book::head::Head;
 use key::Key;
-use least::Least;
 use read::look::Spot;
 use table::limits;
 
@@ -53,6 +53,18 @@ fn is_value(area: &[u8], memory: &[u8], spot: Spot) -> bool
     }
 }
 
+// Its key, where there is one.
+fn key_of(area: &[u8], memory: &[u8], spot: Spot) -> Key
+    requires { ⌜ (length (now memory) ≡ placeSize) × SeatedSpot (now area) (now memory) spot ⌝ }
+    ensures { λ r. ⌜ ((e : Entry) → spotEntry (now (area .entry)) (now (memory .entry)) spot ≡ some e → r .value ≡ e .key) ⌝ }
+{
+    match spot {
+        Spot::Memory(at) => entry::key_at(memory, at),
+        Spot::Place(p, at) => block::key_of(area, p, at),
+        Spot::Nothing => Key::LEAST,
+    }
+}
+
 // The first value from a key on, up to another.
 pub fn next_value(
     area: &[u8],
@@ -76,23 +88,23 @@ pub fn next_value(
     let mut k = from.value;
     let last = high.value;
     while k <= last {
-        let point = Key { value: k };
-        let Least::At(j) = least::least_from(area, cards, lists, head, memory, point) else {
+        let spot = nearest::nearest(area, cards, lists, head, memory, Key { value: k });
+        if !there(spot) {
             return Next {
                 spot: Spot::Nothing,
                 key: high,
             };
-        };
-        let found = j.value;
+        }
+        let key = key_of(area, memory, spot);
+        let found = key.value;
         if last < found {
             return Next {
                 spot: Spot::Nothing,
                 key: high,
             };
         }
-        let spot = look::look_up(area, cards, lists, head, memory, j);
         if is_value(area, memory, spot) {
-            return Next { spot, key: j };
+            return Next { spot, key };
         }
         if found == last {
             return Next {

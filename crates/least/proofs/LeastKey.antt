@@ -1,14 +1,13 @@
--- The least key from a point on: in lists put together, in gathered lists, in rising lists and in ranges. By induction on the list.
-use Prim.Native.Nat.{ℕ, zero, suc, _-_, _≤_, _<_, _^_, min, max}
+-- The least key from a point on: in lists put together, in gathered lists and in rising lists. By induction on the list.
+use Prim.Native.Nat.{ℕ, suc, _≤_, _^_, min}
 use mathlib.Core.Path.{_≡_, refl, sym, _∙_, ap}
-use mathlib.Core.Bool.{Bool, true, false, cond, _&&_, false≢true}
-use mathlib.Core.List.{List, [], _∷_, _++_, map, reverse, reverse-append}
+use mathlib.Core.Bool.{true, false≢true}
+use mathlib.Core.List.{List, [], _∷_, _++_}
 use mathlib.Core.Option.{Option, some, none}
 use native.Mathlib.Omega.{arith}
-use borrow.Author.Tests.{leb-true, leb-false, le-leb, lt-leb, eqb-true, eqb-false, eq-eqb}
+use borrow.Author.Tests.{leb-true, le-leb, eqb-true, eqb-false, eq-eqb}
 use lib.Dec.{leb, ltb, eqb}
-use lib.ListN.{length, getD, take}
-use lib.Seq.{take-suc}
+use lib.ListN.{length}
 use Rattle.number.specs.Number.{Bytes}
 use Rattle.table.specs.Limits.{placeSize}
 use Rattle.table.specs.Entry.{Entry, keyAt}
@@ -19,7 +18,6 @@ use Rattle.table.proofs.Encode.{shows-valid}
 use Rattle.table.proofs.Found.{shown-seek, entryAt-key}
 use Rattle.table.specs.Valid.{Keys}
 use Rattle.ldc.specs.Lists.{flat, isSome}
-use Rattle.ldc.specs.Store.{within}
 use Rattle.ldc.specs.Memtable.{put}
 use Rattle.ldc.specs.Read.{newer, gather}
 use Rattle.ldc.proofs.Basics.Cases.{cases, maybe}
@@ -112,7 +110,7 @@ least-none k es h =
 -- ---- rising lists
 
 -- Below the first key nothing is; so what the head gives is the least.
-least-above : (k low high : ℕ) (es : List Entry) → Keys low high es → (j : ℕ) → leastFrom k es ≡ some j → low ≤ j
+pub least-above : (k low high : ℕ) (es : List Entry) → Keys low high es → (j : ℕ) → leastFrom k es ≡ some j → low ≤ j
 unfolding leastFrom
 least-above k low high [] h j = λ q. some-clash none j q refl
 least-above k low high (e ∷ es) h j =
@@ -143,49 +141,6 @@ least-first k low high (e ∷ es) h =
     (λ q. least-head k low high e es h (leb-true _ _ q) ∙ rw q)
     (λ q. rw q (least-first k (suc (e .key)) high es (h .1)))
 
--- ---- ranges
-
--- A key, if it is not above a range's end.
-abbrev pub upTo : (high : ℕ) → Option ℕ → Option ℕ
-upTo high none = none
-upTo high (some j) = cond (leb j high) (some j) none
-
-upTo-lesser : (high : ℕ) (a b : Option ℕ) → upTo high (lesser a b) ≡ lesser (upTo high a) (upTo high b)
-upTo-lesser high none b = refl
-upTo-lesser high (some a) none = sym (lesser-none (upTo high (some a)))
-upTo-lesser high (some a) (some b) =
-    cases (leb a high)
-    (λ p. cases (leb b high)
-    (λ q. rw (p, q, le-leb (min a b) high (omega (arith, leb-true a high p))))
-    (λ q. let e : min a b ≡ a = omega (arith, leb-true a high p, leb-false b high q) in rw (p, q, e, p)))
-    (λ p. cases (leb b high)
-    (λ q. let e : min a b ≡ b = omega (arith, leb-false a high p, leb-true b high q) in rw (p, q, e, q))
-    (λ q. rw (p, q, lt-leb (min a b) high (omega (arith, leb-false a high p, leb-false b high q)))))
-
-range-head : (k low high j : ℕ) → cond (leb low j && leb j high) (fromOn k j) none ≡ upTo high (fromOn (max k low) j)
-range-head k low high j =
-    cases (leb low j)
-    (λ p. cases (leb k j)
-    (λ q. rw (p, q, le-leb (max k low) j (omega (arith, leb-true k j q, leb-true low j p))))
-    (λ q. rw (p, q, lt-leb (max k low) j (omega (arith, leb-false k j q))) (cases (leb j high) (λ r. rw r) (λ r. rw r))))
-    (λ p. rw (p, lt-leb (max k low) j (omega (arith, leb-false low j p))))
-
-least-if : (k : ℕ) (b : Bool) (e : Entry) (es : List Entry) → leastFrom k (cond b (e ∷ es) es) ≡ lesser (cond b (fromOn k (e .key)) none) (leastFrom k es)
-unfolding leastFrom
-least-if k true e es = refl
-least-if k false e es = refl
-
-pub least-within : (k low high : ℕ) (es : List Entry) → leastFrom k (within low high es) ≡ upTo high (leastFrom (max k low) es)
-unfolding leastFrom within
-least-within k low high [] = refl
-least-within k low high (e ∷ es) =
-    least-if k (leb low (e .key) && leb (e .key) high) e (within low high es)
-    ∙ rw (range-head k low high (e .key), least-within k low high es)
-    (sym (upTo-lesser high (fromOn (max k low) (e .key)) (leastFrom (max k low) es)))
-
-pub slice-least : (k low high : ℕ) (es : List Entry) (o : Option ℕ) → o ≡ leastFrom (max k low) es → leastFrom k (within low high es) ≡ upTo high o
-slice-least k low high es o h = least-within k low high es ∙ ap (upTo high) (sym h)
-
 -- ---- a table's bytes
 
 module _ (s : List ℕ) (b : Bytes s) (long : length s ≡ placeSize) (good : isMemory s ≡ true) (k : ℕ) where
@@ -201,19 +156,3 @@ module _ (s : List ℕ) (b : Bytes s) (long : length s ≡ placeSize) (good : is
   pub seek-none : seekIn s k ≡ found.Nothing → leastFrom k (entries s) ≡ none
   unfolding shown
   seek-none h = least-first k 0 (2 ^ 64) (entries s) rising ∙ ap keyOf (sym (shown-seek s k) ∙ ap (shown s) h)
-
--- ---- newest first
-
-pub least-turn {ℓ} : {A : Type ℓ} (f : A → List Entry) (xs : List A) (i : ℕ) (d : A) (k : ℕ) → 0 < i → i ≤ length xs
-    → leastFrom k (flat (map f (reverse (take i xs))))
-    ≡ lesser (leastFrom k (f (getD xs (i - 1) d))) (leastFrom k (flat (map f (reverse (take (i - 1) xs)))))
-least-turn f xs zero d k h hi = absurd (omega arith)
-least-turn f xs (suc i) d k h hi =
-    let e : suc i - 1 ≡ i = omega arith in
-    let split : reverse (take (suc i) xs) ≡ getD xs i d ∷ reverse (take i xs) =
-    ap reverse (take-suc xs i d (omega arith)) ∙ reverse-append (take i xs) (getD xs i d ∷ []) in
-    rw (e, split) (least-append k (f (getD xs i d)) (flat (map f (reverse (take i xs)))))
-
-pub least-end {ℓ} : {A : Type ℓ} (f : A → List Entry) (xs : List A) (i k : ℕ) → i ≤ 0 → leastFrom k (flat (map f (reverse (take i xs)))) ≡ none
-unfolding leastFrom
-least-end f xs i k h = let e : i ≡ 0 = omega arith in rw e

@@ -1,54 +1,29 @@
--- The least key from a point on of a level: tables whose spans end before the point have none, and of the others the first that has
--- one has the least.
-use Prim.Native.Nat.{ℕ, zero, suc, _+_, _≤_, _<_}
+-- The least key from a point on of a level: the first table that has one from there on has the least.
+use Prim.Native.Nat.{ℕ, zero, suc, _≤_, _<_}
 use mathlib.Core.Path.{_≡_, refl, sym, _∙_, ap}
 use mathlib.Core.Bool.{true, false≢true}
-use mathlib.Core.List.{List, [], _∷_, map, reverse, append-nil, List·Memᴰ, List·Memᴰ·head, List·Memᴰ·tail}
+use mathlib.Core.List.{List, [], _∷_, List·Memᴰ, List·Memᴰ·head, List·Memᴰ·tail}
 use mathlib.Core.Logic.{inr}
 use mathlib.Core.Option.{Option, some, none}
 use native.Mathlib.Omega.{arith}
-use native.Mathlib.Numerals.{add-one}
-use borrow.Author.Tests.{leb-true, leb-false, ltb-true}
-use lib.Dec.{leb, ltb}
-use lib.ListN.{length, getD, drop, drop-of-length-le}
+use borrow.Author.Tests.{leb-true, leb-false}
+use lib.Dec.{leb}
+use lib.ListN.{length, getD, drop}
 use lib.Seq.{drop-cons}
 use Rattle.number.specs.Number.{Bytes}
 use Rattle.table.specs.Entry.{Entry}
 use Rattle.table.specs.Search.{find}
 use Rattle.ldc.specs.Lists.{flat, isSome}
-use Rattle.ldc.specs.Store.{Store, links, table, slice, sources, spanEnd}
+use Rattle.ldc.specs.Store.{Store, sources, spanEnd}
 use Rattle.ldc.proofs.Basics.Cases.{cases, maybe}
-use Rattle.ldc.proofs.Stores.Spans.{Readable, Spans, spans-lower, reads, reads-flat, reads-below, read-outside, flat-append}
-use Rattle.read.specs.Shown.{shownBy, Legible, Rising, readsIn}
-use Rattle.read.specs.Level.{rank}
-use Rattle.least.specs.Least.{lesser, leastFrom}
+use Rattle.ldc.proofs.Stores.Spans.{Readable, Spans, spans-lower, reads, reads-below, read-outside}
+use Rattle.read.specs.Shown.{shownBy, Legible, Rising}
+use Rattle.least.specs.Least.{leastFrom}
 use Rattle.read.proofs.Rank.{all-readable, spans}
-use Rattle.least.proofs.LeastKey.{least-append, least-found, least-none}
+use Rattle.least.proofs.LeastKey.{least-append, least-found}
 
 abbrev All : Store → List ℕ → Type 0
 All s ps = (q : ℕ) → List·Memᴰ q ps → Readable s q
-
--- What is read of a table: its links and its own.
-pub least-sources : (s : Store) (k p : ℕ)
-    → leastFrom k (flat (sources s p)) ≡ lesser (leastFrom k (flat (map (slice s) (reverse (links s p))))) (leastFrom k (table s p))
-unfolding sources
-least-sources s k p =
-    ap (leastFrom k) (flat-append (map (slice s) (reverse (links s p))) (table s p ∷ []))
-    ∙ least-append k (flat (map (slice s) (reverse (links s p)))) (flat (table s p ∷ []))
-    ∙ rw (append-nil (table s p))
-
--- Nothing from the point on stands in a table whose span ends before it.
-outside : (s : Store) (k p : ℕ) → Readable s p → spanEnd s p < k → leastFrom k (flat (sources s p)) ≡ none
-outside s k p r h = least-none k (flat (sources s p)) (λ j hj. read-outside s p r j (inr (omega arith)))
-
-skipped : (s : Store) (k : ℕ) (ps : List ℕ) → All s ps → leastFrom k (reads s ps) ≡ leastFrom k (reads s (drop (rank s k ps) ps))
-unfolding rank
-skipped s k [] r = refl
-skipped s k (p ∷ ps) r =
-    cases (ltb (spanEnd s p) k)
-    (λ q. rw q (least-append k (flat (sources s p)) (reads s ps)
-    ∙ rw (outside s k p (r p (List·Memᴰ·head refl)) (ltb-true _ _ q)) (skipped s k ps (λ x m. r x (List·Memᴰ·tail m)))))
-    (λ q. rw q)
 
 none-some : {P : Type 0} (o : Option Entry) → o ≡ none → isSome o ≡ true → P
 none-some o p q = absurd (false≢true (sym (ap isSome p) ∙ q))
@@ -84,10 +59,6 @@ member-drop q [] (suc i) m = m
 member-drop q (p ∷ ps) (suc i) m = List·Memᴰ·tail (member-drop q ps i m)
 
 module _ (area : List ℕ) (cards : List (List ℕ)) (items : List ℕ) (b : Bytes area) (g : Legible area cards) (r : Rising area cards items) (k : ℕ) where
-  pub level-start : leastFrom k (readsIn (shownBy area cards) items)
-      ≡ leastFrom k (reads (shownBy area cards) (drop (rank (shownBy area cards) k items) items))
-  level-start = ap (leastFrom k) (reads-flat (shownBy area cards) items) ∙ skipped (shownBy area cards) k items (all-readable area cards items b g r)
-
   module _ (i : ℕ) where
     pub level-met : i < length items → (j : ℕ) → leastFrom k (flat (sources (shownBy area cards) (getD items i 0))) ≡ some j
         → leastFrom k (reads (shownBy area cards) (drop i items)) ≡ some j
@@ -96,13 +67,3 @@ module _ (area : List ℕ) (cards : List (List ℕ)) (items : List ℕ) (b : Byt
         let all : All (shownBy area cards) (drop i items) = λ q m. all-readable area cards items b g r q (member-drop q items i m) in
         let rise = spans-drop (shownBy area cards) 0 items i (spans area cards items b g r) in
         rw split (first-least (shownBy area cards) k 0 (getD items i 0) (drop (suc i) items) j (rw split at all) (rw split at rise) e)
-
-    pub level-passed : i < length items → leastFrom k (flat (sources (shownBy area cards) (getD items i 0))) ≡ none
-        → leastFrom k (reads (shownBy area cards) (drop i items)) ≡ leastFrom k (reads (shownBy area cards) (drop (i + 1) items))
-    level-passed h e =
-        rw (drop-cons items i 0 h, add-one i)
-        (least-append k (flat (sources (shownBy area cards) (getD items i 0))) (reads (shownBy area cards) (drop (suc i) items)) ∙ rw e)
-
-    pub level-end : length items ≤ i → leastFrom k (reads (shownBy area cards) (drop i items)) ≡ none
-    unfolding leastFrom
-    level-end h = let e : drop i items ≡ [] = drop-of-length-le items {i = i} h in rw e

@@ -1,11 +1,9 @@
 -- The laws of `least`.
 --   LeastKey    the least key from a point on
 --   LeastLevel  the least key from a point on of a level
---   Parts       the walk over levels 1 to 3, and all that is read
 --   Ranges      ranges of rising entries
 --   Taken       entries taken from where they stand
 pub mod LeastKey
 pub mod LeastLevel
-pub mod Parts
 pub mod Ranges
 pub mod Taken

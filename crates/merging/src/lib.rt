@@ -10,7 +10,6 @@ ghost use Rattle.read.specs.Shown.{Tabled, Legible};
 ghost use Rattle.read.specs.Hit.{hitEntry, SeatedHit};
 ghost use Rattle.merger.specs.Merge.{comesOut, mergedIn, fromKey, Leads};
 use key::Key;
-use least::Least;
 use read::hit::Hit;
 use table::limits;
 
@@ -44,11 +43,11 @@ pub fn first_from(area: &[u8], cards: &[[u64; 26]], n: usize, p: usize, from: Ke
 {
     let mut k = from.value;
     loop {
-        let point = Key { value: k };
-        let Least::At(key) = least::in_sources(area, cards, p, point) else {
+        let hit = nearest::in_sources(area, cards, p, Key { value: k });
+        let Hit::At(q, at) = hit else {
             return Hit::Nothing;
         };
-        let hit = hit::in_sources(area, cards, p, key);
+        let key = block::key_of(area, q, at);
         if comes_out(area, n, hit) {
             return hit;
         }
@@ -58,16 +57,6 @@ pub fn first_from(area: &[u8], cards: &[[u64; 26]], n: usize, p: usize, from: Ke
         }
         k = found + 1;
     }
-}
-
-// The key of the entry at a position of a place.
-fn key_in(area: &[u8], q: usize, at: usize) -> Key
-    requires { ⌜ (q * placeSize + placeSize ≤ length (now area)) × (at + entryHead ≤ placeSize) ⌝ }
-    ensures { λ r. ⌜ r .value ≡ keyAt (placeAt (q * placeSize) (now (area .entry))) at ⌝ }
-{
-    let start = q * limits::PLACE_SIZE;
-    let end = start + limits::PLACE_SIZE;
-    entry::key_at(&area[start..end], at)
 }
 
 // The first entry behind the one at a position of a place.
@@ -87,7 +76,7 @@ pub fn first_behind(
         Leads (now (area .entry)) (mergedIn (now (area .entry)) (now (cards .entry)) n p) (fromKey (suc (keyAt (placeAt (q * placeSize) (now (area .entry))) at)) (mergedIn (now (area .entry)) (now (cards .entry)) n p)) r
         ⌝ }
 {
-    let key = key_in(area, q, at);
+    let key = block::key_of(area, q, at);
     let last = key.value;
     if last == Key::GREATEST.value {
         return Hit::Nothing;

@@ -1,11 +1,11 @@
 -- `next_value` meets its contract. The loop's invariant: the first value of the range is that of the range from k on.
 use Prim.Native.Nat.{ℕ, suc, _-_, _≤_}
 use mathlib.Core.Path.{_≡_, refl, sym, _∙_, ap}
-use mathlib.Core.List.{List}
 use mathlib.Core.Option.{some}
 use native.Mathlib.Numerals.{add-one}
 use native.Mathlib.Omega.{arith}
 use borrow.Author.Needs.{needs}
+use borrow.Author.Tests.{not-true, not-false}
 use Rattle.table.specs.Entry.{Entry}
 use Rattle.table.specs.Search.{find}
 use Rattle.ldc.specs.Lists.{flat}
@@ -16,14 +16,16 @@ use Rattle.ldc.proofs.Lent.Rules.{unbroken}
 use Rattle.ldc.proofs.Stores.Sound.{Sound}
 use Rattle.book.specs.Head.{headWords}
 use Rattle.book.specs.Made.{lent}
-use Rattle.least.specs.Least.{leastFrom, theLeast}
-use Rattle.iterator.specs.Next.{valued}
-use Rattle.least.specs.Least.{firstOf}
+use Rattle.least.specs.Least.{leastFrom, firstOf}
 use Rattle.least.proofs.LeastKey.{least-found}
-use Rattle.read.proofs.Levels.{sound-kept, levels-kept, order-read}
 use Rattle.least.proofs.Ranges.{within-over}
+use Rattle.nearest.specs.Nearest.{nearest}
+use Rattle.nearest.proofs.NearLaws.{near-none, near-least, near-found}
+use Rattle.read.specs.Look.{Spots}
+use Rattle.read.proofs.Levels.{sound-kept, levels-kept, order-read}
+use Rattle.iterator.specs.Next.{valued}
 use Rattle.iterator.proofs.Contents.{none-over, one-over, next-none, next-found, next-passed, next-key}
-use Rattle.iterator.proofs.Spotted.{next-nothing}
+use Rattle.iterator.proofs.Spotted.{none-there, some-there, next-nothing}
 use Rattle.iterator.proofs.next_value.Statement.{statement}
 use Rattle.iterator.proofs.next_value.Tie as tie
 
@@ -45,46 +47,68 @@ sound c =
     sound-kept (lent (a .area .now) (a .cards .now) (a .lists .now) (headWords (a .head)) (a .memory .now)) (c .before .before .before .pre .1) (c .before .before .before .pre .0)
     (λ i. omega (arith, c .shared-slice-known3 .given i)) (λ i. omega (arith, c .before .before .shared-slice-known .given i))
 
-least-from-requires : tie.Need-least-from-requires Inv-loop μ-loop
-least-from-requires c κs =
+nearest-requires : tie.Need-nearest-requires Inv-loop μ-loop
+nearest-requires c κs =
     let a = c .before .before .before .before .before .args in (
       levels-kept (lent (a .area .now) (a .cards .now) (a .lists .now) (headWords (a .head)) (a .memory .now)) (c .before .before .before .before .before .pre .1) (c .before .before .before .before .before .pre .0)
           (λ i. omega (arith, c .before .before .shared-slice-known3 .given i)) (λ i. omega (arith, c .before .before .before .before .shared-slice-known .given i)),
       (c .before .before .before .before .before .pre .0, unbroken _ (c .before .before .before .before .before .pre .1 .unbroken) .memory),
     )
 
-least : (c : tie.After-least-from Inv-loop μ-loop)
+-- What is found stands where the nearest entry of all that is read does.
+near : (c : tie.After-nearest Inv-loop μ-loop)
     → let a = c .before .before .before .before .before .before .args in
-    theLeast (c .least-from .result)
-    ≡ leastFrom (c .before .before .loop .k) (flat (readOrder (storeOf (lent (a .area .now) (a .cards .now) (a .lists .now) (headWords (a .head)) (a .memory .now)))))
-least c =
+    Spots (a .area .now) (a .memory .now) (nearest (c .before .before .loop .k) (flat (readOrder (storeOf (lent (a .area .now) (a .cards .now) (a .lists .now) (headWords (a .head)) (a .memory .now)))))) (c .nearest .result)
+near c =
     let a = c .before .before .before .before .before .before .args in
-    c .least-from .ensures
-    ∙ ap (λ (es : List Entry). leastFrom (c .before .before .loop .k) es)
-    (sym (order-read (lent (a .area .now) (a .cards .now) (a .lists .now) (headWords (a .head)) (a .memory .now)) (c .before .before .before .before .before .before .pre .1) (c .before .before .before .before .before .before .pre .0)
-    (λ i. omega (arith, c .before .before .before .shared-slice-known3 .given i)) (λ i. omega (arith, c .before .before .before .before .before .shared-slice-known .given i))))
+    rw (order-read (lent (a .area .now) (a .cards .now) (a .lists .now) (headWords (a .head)) (a .memory .now)) (c .before .before .before .before .before .before .pre .1) (c .before .before .before .before .before .before .pre .0)
+    (λ i. omega (arith, c .before .before .before .shared-slice-known3 .given i)) (λ i. omega (arith, c .before .before .before .before .before .shared-slice-known .given i)))
+    (c .nearest .ensures)
 
-enum-known-j : tie.Need-enum-known-j Inv-loop μ-loop
-enum-known-j c = search needs
-
-enum-told : tie.Need-enum-told Inv-loop μ-loop
-enum-told c = search needs
+there-requires : tie.Need-there-requires Inv-loop μ-loop
+there-requires c κs = search needs
 
 returns : tie.Need-returns Inv-loop μ-loop
 returns c =
     let a = c .before .before .before .before .before .before .before .before .args in
     let l = c .before .before .before .before .loop in
     let s = storeOf (lent (a .area .now) (a .cards .now) (a .lists .now) (headWords (a .head)) (a .memory .now)) in
-    let e = rw (c .enum-told .given .1) at (least (c .before .before)) in
+    let R = flat (readOrder s) in
+    let n = none-there (a .area .now) (a .memory .now) (nearest (l .k) R) (c .before .before .nearest .result) (near (c .before .before)) (sym (c .before .there .ensures) ∙ not-true _ (c .if1 .taken)) in
     next-nothing (a .area .now) (a .memory .now) _ (a .high)
-    (l .inv .1 ∙ ap firstOf (next-none s (sound (c .before .before .before .before .before)) (l .k) (a .high .value) (none-over (l .k) (a .high .value) (flat (readOrder s)) e)))
+    (l .inv .1 ∙ ap firstOf (next-none s (sound (c .before .before .before .before .before)) (l .k) (a .high .value) (none-over (l .k) (a .high .value) R (sym (near-none (l .k) R n)))))
 
-stands : (c : tie.After-known-told Inv-loop μ-loop)
+key-of-requires : tie.Need-key-of-requires Inv-loop μ-loop
+key-of-requires c κs = (c .before .before .before .before .before .before .before .before .pre .0, near (c .before .before) .seated)
+
+-- The nearest entry.
+met : (c : tie.Else1 Inv-loop μ-loop)
+    → let a = c .before .before .before .before .before .before .before .before .args in
+    (e : Entry) × (nearest (c .before .before .before .before .loop .k) (flat (readOrder (storeOf (lent (a .area .now) (a .cards .now) (a .lists .now) (headWords (a .head)) (a .memory .now))))) ≡ some e)
+met c =
+    let a = c .before .before .before .before .before .before .before .before .args in
+    some-there (a .area .now) (a .memory .now) (nearest (c .before .before .before .before .loop .k) (flat (readOrder (storeOf (lent (a .area .now) (a .cards .now) (a .lists .now) (headWords (a .head)) (a .memory .now)))))) (c .before .before .nearest .result) (near (c .before .before)) (sym (c .before .there .ensures) ∙ not-false _ (c .if1 .left))
+
+-- Its key is the one that the code reads.
+keyed : (c : tie.After-key-of Inv-loop μ-loop) → c .key-of .result .value ≡ met (c .before) .0 .key
+keyed c = c .key-of .ensures (met (c .before) .0) (near (c .before .before .before) .shown ∙ met (c .before) .1)
+
+-- It is the least from k on.
+stands : (c : tie.After-key-of Inv-loop μ-loop)
     → let a = c .before .before .before .before .before .before .before .before .before .args in
-    some (c .before .j .given .0 .0 .value)
-    ≡ leastFrom (c .before .before .before .before .before .loop .k) (flat (readOrder (storeOf (lent (a .area .now) (a .cards .now) (a .lists .now) (headWords (a .head)) (a .memory .now)))))
+    some (c .key-of .result .value) ≡ leastFrom (c .before .before .before .before .before .loop .k) (flat (readOrder (storeOf (lent (a .area .now) (a .cards .now) (a .lists .now) (headWords (a .head)) (a .memory .now)))))
 stands c =
-    rw (c .before .j .given .1) at (least (c .before .before .before))
+    let a = c .before .before .before .before .before .before .before .before .before .args in
+    ap (λ (n : ℕ). some n) (keyed c) ∙ sym (near-least (c .before .before .before .before .before .loop .k) (flat (readOrder (storeOf (lent (a .area .now) (a .cards .now) (a .lists .now) (headWords (a .head)) (a .memory .now))))) (met (c .before) .0) (met (c .before) .1))
+
+-- What is found under it is the entry.
+decides : (c : tie.After-key-of Inv-loop μ-loop)
+    → let a = c .before .before .before .before .before .before .before .before .before .args in
+    nearest (c .before .before .before .before .before .loop .k) (flat (readOrder (storeOf (lent (a .area .now) (a .cards .now) (a .lists .now) (headWords (a .head)) (a .memory .now))))) ≡ find (c .key-of .result .value) (flat (readOrder (storeOf (lent (a .area .now) (a .cards .now) (a .lists .now) (headWords (a .head)) (a .memory .now)))))
+decides c =
+    let a = c .before .before .before .before .before .before .before .before .before .args in
+    let R = flat (readOrder (storeOf (lent (a .area .now) (a .cards .now) (a .lists .now) (headWords (a .head)) (a .memory .now)))) in
+    met (c .before) .1 ∙ sym (near-found (c .before .before .before .before .before .loop .k) R (met (c .before) .0) (met (c .before) .1)) ∙ ap (λ (n : ℕ). find n R) (sym (keyed c))
 
 returns-2 : tie.Need-returns-2 Inv-loop μ-loop
 returns-2 c =
@@ -93,67 +117,61 @@ returns-2 c =
     let s = storeOf (lent (a .area .now) (a .cards .now) (a .lists .now) (headWords (a .head)) (a .memory .now)) in
     next-nothing (a .area .now) (a .memory .now) _ (a .high)
     (l .inv .1 ∙ ap firstOf (next-none s (sound (c .before .before .before .before .before .before .before)) (l .k) (a .high .value)
-    (one-over (l .k) (a .high .value) (c .before .before .j .given .0 .0 .value) (flat (readOrder s)) (stands (c .before)) (omega (arith, l .inv .0, c .if1 .taken)))))
-
-look-up-requires : tie.Need-look-up-requires Inv-loop μ-loop
-look-up-requires c κs = c .before .before .before .before .before .before .before .before .before .before .pre
+    (one-over (l .k) (a .high .value) (c .before .key-of .result .value) (flat (readOrder s)) (stands (c .before)) (omega (arith, l .inv .0, c .if2 .taken)))))
 
 is-value-requires : tie.Need-is-value-requires Inv-loop μ-loop
-is-value-requires c κs =
-    (c .before .before .before .before .before .before .before .before .before .before .before .pre .0, c .look-up .ensures .seated)
+is-value-requires c κs = (c .before .before .before .before .before .before .before .before .before .before .pre .0, near (c .before .before .before .before) .seated)
 
 tested : (c : tie.After-is-value Inv-loop μ-loop)
-    → let a = c .before .before .before .before .before .before .before .before .before .before .before .before .args in
-    c .is-value .result
-    ≡ valued (find (c .before .before .before .before .j .given .0 .0 .value) (flat (readOrder (storeOf (lent (a .area .now) (a .cards .now) (a .lists .now) (headWords (a .head)) (a .memory .now))))))
-tested c =
-    c .is-value .ensures ∙ ap valued (c .before .look-up .ensures .shown)
+    → let a = c .before .before .before .before .before .before .before .before .before .before .before .args in
+    c .is-value .result ≡ valued (find (c .before .before .key-of .result .value) (flat (readOrder (storeOf (lent (a .area .now) (a .cards .now) (a .lists .now) (headWords (a .head)) (a .memory .now))))))
+tested c = c .is-value .ensures ∙ ap valued (near (c .before .before .before .before .before) .shown ∙ decides (c .before .before))
 
 returns-3 : tie.Need-returns-3 Inv-loop μ-loop
 returns-3 c =
-    let a = c .before .before .before .before .before .before .before .before .before .before .before .before .before .args in
-    let l = c .before .before .before .before .before .before .before .before .before .loop in
-    let j : ℕ = c .before .before .before .before .before .j .given .0 .0 .value in
+    let a = c .before .before .before .before .before .before .before .before .before .before .before .before .args in
+    let l = c .before .before .before .before .before .before .before .before .loop in
+    let j : ℕ = c .before .before .before .key-of .result .value in
     let s = storeOf (lent (a .area .now) (a .cards .now) (a .lists .now) (headWords (a .head)) (a .memory .now)) in
-    let le : j ≤ a .high .value = omega (arith, l .inv .0, c .before .before .before .if1 .left) in
-    let e = l .inv .1 ∙ next-found s (sound (c .before .before .before .before .before .before .before .before .before .before)) (l .k) (a .high .value) j (sym (stands (c .before .before .before .before))) le (sym (tested (c .before)) ∙ c .if2 .taken) in
+    let le : j ≤ a .high .value = omega (arith, l .inv .0, c .before .before .if2 .left) in
+    let e = l .inv .1 ∙ next-found s (sound (c .before .before .before .before .before .before .before .before .before)) (l .k) (a .high .value) j (sym (stands (c .before .before .before))) le (sym (tested (c .before)) ∙ c .if3 .taken) in
     record {
-      spots = rw e (c .before .before .look-up .ensures);
-      keyed = λ x q. next-key s (sound (c .before .before .before .before .before .before .before .before .before .before)) (l .k) (a .high .value) j (sym (stands (c .before .before .before .before))) le x (sym e ∙ q);
+      spots = rw (e ∙ sym (decides (c .before .before .before))) (near (c .before .before .before .before .before .before));
+      keyed = λ x q. next-key s (sound (c .before .before .before .before .before .before .before .before .before)) (l .k) (a .high .value) j (sym (stands (c .before .before .before))) le x (sym e ∙ q);
     }
 
-passed : (c : tie.Else2 Inv-loop μ-loop)
-    → let a = c .before .before .before .before .before .before .before .before .before .before .before .before .before .args in
+passed : (c : tie.Else3 Inv-loop μ-loop)
+    → let a = c .before .before .before .before .before .before .before .before .before .before .before .before .args in
     let s = storeOf (lent (a .area .now) (a .cards .now) (a .lists .now) (headWords (a .head)) (a .memory .now)) in
-    within (c .before .before .before .before .before .before .before .before .before .loop .k) (a .high .value) (contents s) ≡ within (suc (c .before .before .before .before .before .j .given .0 .0 .value)) (a .high .value) (contents s)
+    within (c .before .before .before .before .before .before .before .before .loop .k) (a .high .value) (contents s) ≡ within (suc (c .before .before .before .key-of .result .value)) (a .high .value) (contents s)
 passed c =
-    let a = c .before .before .before .before .before .before .before .before .before .before .before .before .before .args in
-    let l = c .before .before .before .before .before .before .before .before .before .loop in
-    let j : ℕ = c .before .before .before .before .before .j .given .0 .0 .value in
+    let a = c .before .before .before .before .before .before .before .before .before .before .before .before .args in
+    let l = c .before .before .before .before .before .before .before .before .loop in
+    let j : ℕ = c .before .before .before .key-of .result .value in
     let s = storeOf (lent (a .area .now) (a .cards .now) (a .lists .now) (headWords (a .head)) (a .memory .now)) in
-    next-passed s (sound (c .before .before .before .before .before .before .before .before .before .before)) (l .k) (a .high .value) j (sym (stands (c .before .before .before .before))) (omega (arith, l .inv .0, c .before .before .before .if1 .left))
-    (sym (tested (c .before)) ∙ c .if2 .left)
+    next-passed s (sound (c .before .before .before .before .before .before .before .before .before)) (l .k) (a .high .value) j (sym (stands (c .before .before .before))) (omega (arith, l .inv .0, c .before .before .if2 .left))
+    (sym (tested (c .before)) ∙ c .if3 .left)
 
 returns-4 : tie.Need-returns-4 Inv-loop μ-loop
 returns-4 c =
-    let a = c .before .before .before .before .before .before .before .before .before .before .before .before .before .before .args in
-    let l = c .before .before .before .before .before .before .before .before .before .before .loop in
+    let a = c .before .before .before .before .before .before .before .before .before .before .before .before .before .args in
+    let l = c .before .before .before .before .before .before .before .before .before .loop in
     let s = storeOf (lent (a .area .now) (a .cards .now) (a .lists .now) (headWords (a .head)) (a .memory .now)) in
     next-nothing (a .area .now) (a .memory .now) _ (a .high)
-    (l .inv .1 ∙ ap firstOf (passed (c .before) ∙ within-over (suc (c .before .before .before .before .before .before .j .given .0 .0 .value)) (a .high .value) (contents s) (omega (arith, l .inv .0, c .if3 .taken))))
+    (l .inv .1 ∙ ap firstOf (passed (c .before) ∙ within-over (suc (c .before .before .before .before .key-of .result .value)) (a .high .value) (contents s) (omega (arith, l .inv .0, c .if4 .taken))))
 
 add-k : tie.Need-add-k Inv-loop μ-loop
 add-k c =
-    omega (arith, c .before .before .before .before .before .before .before .before .before .before .loop .inv .0, c .before .before .before .before .if1 .left, c .if3 .left, c .before .before .before .before .before .before .before .before .before .before .before .before .before .before .good)
+    omega (arith, c .before .before .before .before .before .before .before .before .before .loop .inv .0, c .before .before .before .if2 .left, c .if4 .left, c .before .before .before .before .before .before .before .before .before .before .before .before .before .good)
 
 loop-less : tie.Need-loop-less Inv-loop μ-loop
 loop-less c =
-    omega (arith, least-found (c .before .before .before .before .before .before .before .before .before .before .loop .k) _ (c .before .before .before .before .before .before .j .given .0 .0 .value) (sym (stands (c .before .before .before .before .before))) .0, c .before .before .before .before .if1 .left, c .if3 .left)
+    omega (arith, least-found (c .before .before .before .before .before .before .before .before .before .loop .k) _ (c .before .before .before .before .key-of .result .value) (sym (stands (c .before .before .before .before))) .0, c .before .before .before .if2 .left, c .if4 .left)
 
 loop-again : tie.Need-loop-again Inv-loop μ-loop
 loop-again c =
-    let l = c .before .before .before .before .before .before .before .before .before .before .loop in
-    (l .inv .0, l .inv .1 ∙ ap firstOf (passed (c .before)) ∙ rw (add-one (c .before .before .before .before .before .before .j .given .0 .0 .value)))
+    let l = c .before .before .before .before .before .before .before .before .before .loop in
+    (l .inv .0, l .inv .1 ∙ ap firstOf (passed (c .before)) ∙ rw (add-one (c .before .before .before .before .key-of .result .value)))
 
 returns-5 : tie.Need-returns-5 Inv-loop μ-loop
 returns-5 c =
@@ -170,12 +188,11 @@ next-value-spec =
     Inv-loop
     μ-loop
     loop-holds
-    least-from-requires
-    enum-known-j
-    enum-told
+    nearest-requires
+    there-requires
     returns
+    key-of-requires
     returns-2
-    look-up-requires
     is-value-requires
     returns-3
     returns-4

@@ -11,15 +11,15 @@ use Rattle.merger.proofs.Comes.{from-over, leads-none}
 use Rattle.merging.proofs.first_behind.Statement.{statement}
 use Rattle.merging.proofs.first_behind.Tie as tie
 
-key-in-requires : tie.Need-key-in-requires
-key-in-requires c κs = search needs
+key-of-requires : tie.Need-key-of-requires
+key-of-requires c κs = search needs
 
 returns : tie.Need-returns
 returns c =
     let a = c .before .before .before .before .args in
     let M = mergedIn (a .area .now) (a .cards .now) (a .n) (a .p) in
     leads-none (a .area .now) M _
-    (from-over (suc (keyAt (placeAt (a .q * placeSize) (a .area .now)) (a .at))) M (omega (arith, c .before .before .key-in .ensures, c .if1 .taken)))
+    (from-over (suc (keyAt (placeAt (a .q * placeSize) (a .area .now)) (a .at))) M (omega (arith, c .before .before .key-of .ensures, c .if1 .taken)))
 
 add-after : tie.Need-add-after
 add-after c = search needs
@@ -30,10 +30,10 @@ first-from-requires c κs = search needs
 returns-2 : tie.Need-returns-2
 returns-2 c =
     let a = c .before .before .before .before .before .args in
-    let e : suc (keyAt (placeAt (a .q * placeSize) (a .area .now)) (a .at)) ≡ c .before .before .before .key-in .result .value + 1 =
-    omega (arith, c .before .before .before .key-in .ensures) in
+    let e : suc (keyAt (placeAt (a .q * placeSize) (a .area .now)) (a .at)) ≡ c .before .before .before .key-of .result .value + 1 =
+    omega (arith, c .before .before .before .key-of .ensures) in
     rw e (c .first-from .ensures)
 
 pub first-behind-spec : {M : Type 1} → statement M
 first-behind-spec =
-    tie.close (tie.spec key-in-requires returns add-after first-from-requires returns-2)
+    tie.close (tie.spec key-of-requires returns add-after first-from-requires returns-2)

@@ -1,9 +1,9 @@
--- `key_in` meets its contract: the part of the area is the place.
+-- `key_of` meets its contract: the part of the area is the place.
 use mathlib.Core.Path.{_∙_}
 use borrow.Author.Needs.{needs}
 use Rattle.read.proofs.Shows.{placed}
-use Rattle.merging.proofs.key_in.Statement.{statement}
-use Rattle.merging.proofs.key_in.Tie as tie
+use Rattle.block.proofs.key_of.Statement.{statement}
+use Rattle.block.proofs.key_of.Tie as tie
 
 mul-start : tie.Need-mul-start
 mul-start c = search needs
@@ -25,10 +25,10 @@ key-at-requires c κs = search needs
 
 returns : tie.Need-returns
 returns c =
-    c .key-at .ensures ∙ rw (placed (c .before .before .before .args .area .now) (c .before .before .before .args .q))
+    c .key-at .ensures ∙ rw (placed (c .before .before .before .args .area .now) (c .before .before .before .args .p))
 
-pub key-in-spec : {M : Type 1} → statement M
-key-in-spec =
+pub key-of-spec : {M : Type 1} → statement M
+key-of-spec =
     tie.close
     (tie.spec
     mul-start

@@ -1,9 +1,8 @@
--- `in_links` meets its contract. The loop's invariant: the least key of all slices is the lesser of `least` and that of the first i of them.
+-- `in_links` meets its contract. The loop's invariant: the nearest entry of all slices is the nearer of `hit` and that of the first i of them.
 use Prim.Native.Nat.{ℕ, _*_, _-_, _≤_}
 use mathlib.Core.Path.{_≡_, sym, _∙_, ap}
 use mathlib.Core.List.{List, [], map, reverse}
 use native.Mathlib.Omega.{arith}
-use borrow.Author.Needs.{needs}
 use lib.ListN.{length, getD, take}
 use lib.Seq.{take-length}
 use Rattle.table.specs.Limits.{placeSize}
@@ -13,18 +12,19 @@ use Rattle.ldc.specs.Store.{Link, links, slice, within}
 use Rattle.ldc.specs.Lent.{linkCount}
 use Rattle.book.specs.Row.{linkAt}
 use Rattle.read.specs.Shown.{shownBy}
-use Rattle.least.specs.Least.{leastFrom, lesser, theLeast}
+use Rattle.read.specs.Hit.{hitEntry, SeatedHit}
+use Rattle.nearest.specs.Nearest.{nearer, nearest}
 use Rattle.read.proofs.Shows.{slice-shown, links-long, link-shown}
-use Rattle.least.proofs.LeastKey.{lesser-none, lesser-assoc, least-turn, least-end}
-use Rattle.least.proofs.in_links.Statement.{statement}
-use Rattle.least.proofs.in_links.Tie as tie
+use Rattle.nearest.proofs.NearLaws.{nearer-none, nearer-assoc, near-turn, near-end}
+use Rattle.nearest.proofs.in_links.Statement.{statement}
+use Rattle.nearest.proofs.in_links.Tie as tie
 
 abbrev Inv-loop : tie.InvT-loop
-Inv-loop area cards p from i₀ least₀ i least =
-    (i ≤ linkCount (getD cards p [])) × (leastFrom (from .value) (flat (map (slice (shownBy area cards)) (reverse (links (shownBy area cards) p)))) ≡ lesser (theLeast least) (leastFrom (from .value) (flat (map (slice (shownBy area cards)) (reverse (take i (links (shownBy area cards) p)))))))
+Inv-loop area cards p from i₀ hit₀ i hit =
+    (i ≤ linkCount (getD cards p [])) × (nearest (from .value) (flat (map (slice (shownBy area cards)) (reverse (links (shownBy area cards) p)))) ≡ nearer (hitEntry area hit) (nearest (from .value) (flat (map (slice (shownBy area cards)) (reverse (take i (links (shownBy area cards) p))))))) × SeatedHit area hit
 
 abbrev μ-loop : tie.MeasureT-loop
-μ-loop area cards p from i₀ least₀ i least = i
+μ-loop area cards p from i₀ hit₀ i hit = i
 
 link-count-requires : tie.Need-link-count-requires Inv-loop μ-loop
 link-count-requires c κs = c .before .pre .1
@@ -36,7 +36,8 @@ loop-holds c =
     let s = shownBy (a .area .now) (a .cards .now) in
     let n : length (links s (a .p)) ≡ c .link-count .result = links-long (a .area .now) (a .cards .now) (b .pre .0) (a .p) (b .pre .1) ∙ sym (c .link-count .ensures) in (
       omega (arith, c .link-count .ensures),
-      ap (λ (ls : List Link). leastFrom (a .from .value) (flat (map (slice s) (reverse ls)))) (sym (ap (λ (i : ℕ). take i (links s (a .p))) (sym n) ∙ take-length (links s (a .p)))),
+      ap (λ (ls : List Link). nearest (a .from .value) (flat (map (slice s) (reverse ls)))) (sym (ap (λ (i : ℕ). take i (links s (a .p))) (sym n) ∙ take-length (links s (a .p)))),
+      tt,
     )
 
 sub-i : tie.Need-sub-i Inv-loop μ-loop
@@ -53,8 +54,8 @@ in-slice-requires c κs =
     let e = c .link-at .ensures in
     rw (ap (λ (l : Link). l .place) e) t
 
-lesser-requires : tie.Need-lesser-requires Inv-loop μ-loop
-lesser-requires c κs = search needs
+nearer-requires : tie.Need-nearer-requires Inv-loop μ-loop
+nearer-requires c κs = (c .before .before .before .loop .inv .2, c .in-slice .ensures .seated)
 
 loop-less : tie.Need-loop-less Inv-loop μ-loop
 loop-less c = omega arith
@@ -70,14 +71,15 @@ loop-again c =
     let this : getD (links s (a .p)) (l .i - 1) d ≡ linkAt (getD (a .cards .now) (a .p) []) (l .i - 1) =
     link-shown (a .area .now) (a .cards .now) g (a .p) (b .pre .1) (l .i - 1) d (omega arith) in
     let e = this ∙ sym (c .before .before .link-at .ensures) in
-    let t = rw (e, slice-shown (a .area .now) (a .cards .now) g) at (least-turn (slice s) (links s (a .p)) (l .i) d (a .from .value) (omega arith)
+    let t = rw (e, slice-shown (a .area .now) (a .cards .now) g) at (near-turn (slice s) (links s (a .p)) (l .i) d (a .from .value) (omega arith)
     (omega (arith, links-long (a .area .now) (a .cards .now) g (a .p) (b .pre .1)))) in
     let q = c .before .before .link-at .result in
-    let here = leastFrom (a .from .value) (within (q .low .value) (q .high .value) (entries (placeAt (q .place * placeSize) (a .area .now)))) in
-    let rest = leastFrom (a .from .value) (flat (map (slice s) (reverse (take (l .i - 1) (links s (a .p)))))) in (
+    let here = nearest (a .from .value) (within (q .low .value) (q .high .value) (entries (placeAt (q .place * placeSize) (a .area .now)))) in
+    let rest = nearest (a .from .value) (flat (map (slice s) (reverse (take (l .i - 1) (links s (a .p)))))) in (
       omega arith,
-      l .inv .1 ∙ ap (lesser (theLeast (l .least))) t ∙ sym (lesser-assoc (theLeast (l .least)) here rest)
-          ∙ rw (c .lesser .ensures, c .before .in-slice .ensures),
+      l .inv .1 ∙ ap (nearer (hitEntry (a .area .now) (l .hit))) t ∙ sym (nearer-assoc (hitEntry (a .area .now) (l .hit)) here rest)
+          ∙ rw (c .nearer .ensures .shown, c .before .in-slice .ensures .shown),
+      c .nearer .ensures .seated,
     )
 
 returns : tie.Need-returns Inv-loop μ-loop
@@ -85,7 +87,7 @@ returns c =
     let a = c .before .before .before .before .args in
     let l = c .before .loop in
     let s = shownBy (a .area .now) (a .cards .now) in
-    sym (l .inv .1 ∙ rw (least-end (slice s) (links s (a .p)) (l .i) (a .from .value) (omega arith)) (lesser-none (theLeast (l .least))))
+    record { shown = sym (l .inv .1 ∙ rw (near-end (slice s) (links s (a .p)) (l .i) (a .from .value) (omega arith)) (nearer-none (hitEntry (a .area .now) (l .hit)))); seated = l .inv .2 }
 
 pub in-links-spec : {M : Type 1} → statement M
 in-links-spec =
@@ -98,7 +100,7 @@ in-links-spec =
     sub-i
     link-at-requires
     in-slice-requires
-    lesser-requires
+    nearer-requires
     loop-less
     loop-again
     returns)

@@ -1,28 +1,28 @@
--- `in_lower` meets its contract. The loop's invariant: the least key of levels 1 to 3 is the lesser of `least` and that of levels n to 3.
+-- `in_lower` meets its contract. The loop's invariant: the nearest entry of levels 1 to 3 is the nearer of `hit` and that of levels n to 3.
 use Prim.Native.Nat.{suc, _+_, _*_, _-_, _≤_}
 use mathlib.Core.Path.{_≡_, refl, sym, _∙_, ap}
 use native.Mathlib.Omega.{arith}
-use borrow.Author.Needs.{needs}
 use lib.ListN.{length, take, drop}
 use Rattle.book.specs.Head.{headWords}
 use Rattle.read.specs.Shown.{shownBy, Rising, readsIn}
 use Rattle.read.specs.Look.{itemsIn, lowerIn}
-use Rattle.least.specs.Least.{leastFrom, lesser, theLeast}
+use Rattle.nearest.specs.Nearest.{nearer, nearest}
+use Rattle.read.specs.Hit.{hitEntry, SeatedHit}
 use Rattle.read.proofs.Walks.{part-small, part-fits, part-items}
-use Rattle.least.proofs.Parts.{least-lower-turn, least-lower-end}
-use Rattle.least.proofs.LeastKey.{lesser-none, lesser-assoc}
-use Rattle.least.proofs.in_lower.Statement.{statement}
-use Rattle.least.proofs.in_lower.Tie as tie
+use Rattle.nearest.proofs.Parts.{near-lower-turn, near-lower-end}
+use Rattle.nearest.proofs.NearLaws.{nearer-none, nearer-assoc}
+use Rattle.nearest.proofs.in_lower.Statement.{statement}
+use Rattle.nearest.proofs.in_lower.Tie as tie
 
 abbrev Inv-loop : tie.InvT-loop
-Inv-loop area cards lists head from n₀ least₀ n least =
-    (1 ≤ n) × (n ≤ 4) × (leastFrom (from .value) (lowerIn area cards lists (headWords head) 3 1) ≡ lesser (theLeast least) (leastFrom (from .value) (lowerIn area cards lists (headWords head) (4 - n) n)))
+Inv-loop area cards lists head from n₀ hit₀ n hit =
+    (1 ≤ n) × (n ≤ 4) × (nearest (from .value) (lowerIn area cards lists (headWords head) 3 1) ≡ nearer (hitEntry area hit) (nearest (from .value) (lowerIn area cards lists (headWords head) (4 - n) n))) × SeatedHit area hit
 
 abbrev μ-loop : tie.MeasureT-loop
-μ-loop area cards lists head from n₀ least₀ n least = 4 - n
+μ-loop area cards lists head from n₀ hit₀ n hit = 4 - n
 
 loop-holds : tie.Need-loop-holds Inv-loop μ-loop
-loop-holds c = (omega arith, omega arith, refl)
+loop-holds c = (omega arith, omega arith, refl, tt)
 
 mul-start : tie.Need-mul-start Inv-loop μ-loop
 mul-start c =
@@ -71,8 +71,8 @@ in-level-requires c κs =
     rw e at (c .before .before .before .before .before .before .pre .rising (n - 1) (omega arith)) in
     (c .before .before .before .before .before .before .pre .legible, rw (items (c .before)) r)
 
-lesser-requires : tie.Need-lesser-requires Inv-loop μ-loop
-lesser-requires c κs = search needs
+nearer-requires : tie.Need-nearer-requires Inv-loop μ-loop
+nearer-requires c κs = (c .before .before .before .before .loop .inv .3, c .in-level .ensures .seated)
 
 add-n : tie.Need-add-n Inv-loop μ-loop
 add-n c = omega arith
@@ -85,20 +85,21 @@ loop-again c =
     let a = c .before .before .before .before .before .before .before .before .args in
     let l = c .before .before .before .before .before .loop in
     let s = shownBy (a .area .now) (a .cards .now) in
-    let here = leastFrom (a .from .value) (readsIn s (itemsIn (length (a .cards .now)) (a .lists .now) (headWords (a .head)) (l .n))) in
-    let rest = leastFrom (a .from .value) (lowerIn (a .area .now) (a .cards .now) (a .lists .now) (headWords (a .head)) (4 - (l .n + 1)) (l .n + 1)) in
-    let t = least-lower-turn (a .area .now) (a .cards .now) (a .lists .now) (headWords (a .head)) (l .n) (a .from .value) (c .before .before .before .before .loop-test .taken) in (
+    let here = nearest (a .from .value) (readsIn s (itemsIn (length (a .cards .now)) (a .lists .now) (headWords (a .head)) (l .n))) in
+    let rest = nearest (a .from .value) (lowerIn (a .area .now) (a .cards .now) (a .lists .now) (headWords (a .head)) (4 - (l .n + 1)) (l .n + 1)) in
+    let t = near-lower-turn (a .area .now) (a .cards .now) (a .lists .now) (headWords (a .head)) (l .n) (a .from .value) (c .before .before .before .before .loop-test .taken) in (
       omega arith,
       omega arith,
-      l .inv .2 ∙ ap (lesser (theLeast (l .least))) t ∙ sym (lesser-assoc (theLeast (l .least)) here rest)
-          ∙ rw (c .lesser .ensures, c .before .in-level .ensures, items (c .before .before .before)),
+      l .inv .2 ∙ ap (nearer (hitEntry (a .area .now) (l .hit))) t ∙ sym (nearer-assoc (hitEntry (a .area .now) (l .hit)) here rest)
+          ∙ rw (c .nearer .ensures .shown, c .before .in-level .ensures .shown, items (c .before .before .before)),
+      c .nearer .ensures .seated,
     )
 
 returns : tie.Need-returns Inv-loop μ-loop
 returns c =
     let a = c .before .before .before .before .args in
     let l = c .before .loop in
-    sym (l .inv .2 ∙ rw (least-lower-end (a .area .now) (a .cards .now) (a .lists .now) (headWords (a .head)) (l .n) (a .from .value) (c .loop-test .left)) (lesser-none (theLeast (l .least))))
+    record { shown = sym (l .inv .2 ∙ rw (near-lower-end (a .area .now) (a .cards .now) (a .lists .now) (headWords (a .head)) (l .n) (a .from .value) (c .loop-test .left)) (nearer-none (hitEntry (a .area .now) (l .hit)))); seated = l .inv .3 }
 
 pub in-lower-spec : {M : Type 1} → statement M
 in-lower-spec =
@@ -115,7 +116,7 @@ in-lower-spec =
     part-in-level-start
     part-in-level-end
     in-level-requires
-    lesser-requires
+    nearer-requires
     add-n
     loop-less
     loop-again

@@ -1,20 +1,22 @@
--- `in_level` meets its contract. The loop's invariant: the least key of all tables is that of the tables from the i-th on.
+-- `in_level` meets its contract. The loop's invariant: the nearest entry of all tables is that of the tables from the i-th on.
 use Prim.Native.Nat.{_-_}
-use mathlib.Core.Path.{_≡_, sym, _∙_}
+use mathlib.Core.Path.{_≡_, sym, _∙_, ap}
 use native.Mathlib.Omega.{arith}
 use borrow.Author.Needs.{needs}
 use lib.ListN.{length, drop}
 use Rattle.number.specs.Number.{Bytes}
 use Rattle.ldc.proofs.Stores.Spans.{reads}
 use Rattle.read.specs.Shown.{shownBy, readsIn}
-use Rattle.least.specs.Least.{leastFrom}
-use Rattle.least.proofs.LeastLevel.{level-start, level-met, level-passed, level-end}
-use Rattle.least.proofs.in_level.Statement.{statement}
-use Rattle.least.proofs.in_level.Tie as tie
+use Rattle.read.specs.Hit.{hitEntry}
+use Rattle.read.proofs.Hits.{hit-none, hit-nothing}
+use Rattle.nearest.specs.Nearest.{nearest}
+use Rattle.nearest.proofs.NearLevel.{level-start, level-met, level-passed, level-end}
+use Rattle.nearest.proofs.in_level.Statement.{statement}
+use Rattle.nearest.proofs.in_level.Tie as tie
 
 abbrev Inv-loop : tie.InvT-loop
 Inv-loop area cards items from i₀ i =
-    leastFrom (from .value) (readsIn (shownBy area cards) items) ≡ leastFrom (from .value) (reads (shownBy area cards) (drop i items))
+    nearest (from .value) (readsIn (shownBy area cards) items) ≡ nearest (from .value) (reads (shownBy area cards) (drop i items))
 
 abbrev μ-loop : tie.MeasureT-loop
 μ-loop area cards items from i₀ i = length items - i
@@ -54,9 +56,10 @@ returns c =
     let b = (c .before .before .before .before .before .before .before .before .before) in
     let a = b .args in
     let l = c .before .before .before .before .before .loop in
-    let e = rw (c .enum-told .given .1) at (c .before .before .in-sources .ensures) in
-    let m = level-met (a .area .now) (a .cards .now) (a .items .now) (bytes (c .before .before .before .before .before .before .before .before)) (b .pre .0) (b .pre .1) (a .from .value) (l .i) (c .before .before .before .before .loop-test .taken) _ (sym e) in
-    rw (c .enum-told .given .1) (sym (l .inv ∙ m))
+    let h = c .before .before .in-sources .ensures in
+    let n = sym (h .shown) ∙ ap (hitEntry (a .area .now)) (c .enum-told .given .1) in
+    let m = level-met (a .area .now) (a .cards .now) (a .items .now) (bytes (c .before .before .before .before .before .before .before .before)) (b .pre .0) (b .pre .1) (a .from .value) (l .i) (c .before .before .before .before .loop-test .taken) _ n in
+    record { shown = h .shown ∙ n ∙ sym (l .inv ∙ m); seated = h .seated }
 
 enum-told-2 : tie.Need-enum-told-2 Inv-loop μ-loop
 enum-told-2 c = search needs
@@ -72,15 +75,15 @@ loop-again c =
     let b = (c .before .before .before .before .before .before .before .before .before) in
     let a = b .args in
     let l = c .before .before .before .before .before .loop in
-    let e = rw (c .enum-told2 .given .1) at (c .before .before .in-sources .ensures) in
-    l .inv ∙ level-passed (a .area .now) (a .cards .now) (a .items .now) (bytes (c .before .before .before .before .before .before .before .before)) (b .pre .0) (b .pre .1) (a .from .value) (l .i) (c .before .before .before .before .loop-test .taken) (sym e)
+    let e = hit-nothing (a .area .now) _ _ (c .before .before .in-sources .ensures) (c .enum-told2 .given .1) in
+    l .inv ∙ level-passed (a .area .now) (a .cards .now) (a .items .now) (bytes (c .before .before .before .before .before .before .before .before)) (b .pre .0) (b .pre .1) (a .from .value) (l .i) (c .before .before .before .before .loop-test .taken) e
 
 returns-2 : tie.Need-returns-2 Inv-loop μ-loop
 returns-2 c =
     let b = (c .before .before .before .before .before) in
     let a = b .args in
     let l = c .before .loop in
-    sym (l .inv ∙ level-end (a .area .now) (a .cards .now) (a .items .now) (bytes (c .before .before .before .before)) (b .pre .0) (b .pre .1) (a .from .value) (l .i) (c .loop-test .left))
+    hit-none (a .area .now) _ (l .inv ∙ level-end (a .area .now) (a .cards .now) (a .items .now) (bytes (c .before .before .before .before)) (b .pre .0) (b .pre .1) (a .from .value) (l .i) (c .loop-test .left))
 
 pub in-level-spec : {M : Type 1} → statement M
 in-level-spec =

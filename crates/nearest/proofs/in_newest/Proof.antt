@@ -1,30 +1,30 @@
--- `in_newest` meets its contract. The loop's invariant: the least key of all tables is the lesser of `least` and that of the first i of them.
+-- `in_newest` meets its contract. The loop's invariant: the nearest entry of all tables is the nearer of `hit` and that of the first i of them.
 use Prim.Native.Nat.{ℕ, _*_, _-_, _≤_}
 use mathlib.Core.Path.{_≡_, sym, _∙_, ap}
 use mathlib.Core.List.{List}
 use native.Mathlib.Omega.{arith}
-use borrow.Author.Needs.{needs}
 use lib.ListN.{length, getD, take}
 use lib.Seq.{take-length}
 use Rattle.table.specs.Limits.{placeSize}
 use Rattle.table.specs.Table.{entries, placeAt}
 use Rattle.read.specs.Shown.{newestIn}
-use Rattle.least.specs.Least.{leastFrom, lesser, theLeast}
-use Rattle.least.proofs.LeastKey.{lesser-none, lesser-assoc, least-turn, least-end}
-use Rattle.least.proofs.in_newest.Statement.{statement}
-use Rattle.least.proofs.in_newest.Tie as tie
+use Rattle.read.specs.Hit.{hitEntry, SeatedHit}
+use Rattle.nearest.specs.Nearest.{nearer, nearest}
+use Rattle.nearest.proofs.NearLaws.{nearer-none, nearer-assoc, near-turn, near-end}
+use Rattle.nearest.proofs.in_newest.Statement.{statement}
+use Rattle.nearest.proofs.in_newest.Tie as tie
 
 abbrev Inv-loop : tie.InvT-loop
-Inv-loop area items from i₀ least₀ i least =
-    (i ≤ length items) × (leastFrom (from .value) (newestIn area items) ≡ lesser (theLeast least) (leastFrom (from .value) (newestIn area (take i items))))
+Inv-loop area items from i₀ hit₀ i hit =
+    (i ≤ length items) × (nearest (from .value) (newestIn area items) ≡ nearer (hitEntry area hit) (nearest (from .value) (newestIn area (take i items)))) × SeatedHit area hit
 
 abbrev μ-loop : tie.MeasureT-loop
-μ-loop area items from i₀ least₀ i least = i
+μ-loop area items from i₀ hit₀ i hit = i
 
 loop-holds : tie.Need-loop-holds Inv-loop μ-loop
 loop-holds c =
     let a = c .before .before .args in
-    (omega arith, ap (λ (ps : List ℕ). leastFrom (a .from .value) (newestIn (a .area .now) ps)) (sym (take-length (a .items .now))))
+    (omega arith, ap (λ (ps : List ℕ). nearest (a .from .value) (newestIn (a .area .now) ps)) (sym (take-length (a .items .now))), tt)
 
 sub-i : tie.Need-sub-i Inv-loop μ-loop
 sub-i c = omega arith
@@ -41,8 +41,8 @@ cast-in-table c = omega (arith, c .shared-slice-known3 .given (c .before .before
 in-table-requires : tie.Need-in-table-requires Inv-loop μ-loop
 in-table-requires c κs = c .before .before .before .before .before .pre (c .before .before .loop .i - 1) (omega arith)
 
-lesser-requires : tie.Need-lesser-requires Inv-loop μ-loop
-lesser-requires c κs = search needs
+nearer-requires : tie.Need-nearer-requires Inv-loop μ-loop
+nearer-requires c κs = (c .before .before .before .loop .inv .2, c .in-table .ensures .seated)
 
 loop-less : tie.Need-loop-less Inv-loop μ-loop
 loop-less c = omega arith
@@ -51,17 +51,18 @@ loop-again : tie.Need-loop-again Inv-loop μ-loop
 loop-again c =
     let a = c .before .before .before .before .before .before .before .args in
     let l = c .before .before .before .before .loop in
-    let t = least-turn (λ p. entries (placeAt (p * placeSize) (a .area .now))) (a .items .now) (l .i) 0 (a .from .value) (omega arith) (l .inv .0) in (
+    let t = near-turn (λ p. entries (placeAt (p * placeSize) (a .area .now))) (a .items .now) (l .i) 0 (a .from .value) (omega arith) (l .inv .0) in (
       omega arith,
-      l .inv .1 ∙ rw t (sym (lesser-assoc (theLeast (l .least)) (leastFrom (a .from .value) (entries (placeAt (getD (a .items .now) (l .i - 1) 0 * placeSize) (a .area .now)))) (leastFrom (a .from .value) (newestIn (a .area .now) (take (l .i - 1) (a .items .now)))))
-          ∙ rw (c .lesser .ensures, c .before .in-table .ensures)),
+      l .inv .1 ∙ rw t (sym (nearer-assoc (hitEntry (a .area .now) (l .hit)) (nearest (a .from .value) (entries (placeAt (getD (a .items .now) (l .i - 1) 0 * placeSize) (a .area .now)))) (nearest (a .from .value) (newestIn (a .area .now) (take (l .i - 1) (a .items .now)))))
+          ∙ rw (c .nearer .ensures .shown, c .before .in-table .ensures .shown)),
+      c .nearer .ensures .seated,
     )
 
 returns : tie.Need-returns Inv-loop μ-loop
 returns c =
     let a = c .before .before .before .before .args in
     let l = c .before .loop in
-    sym (l .inv .1 ∙ rw (least-end (λ p. entries (placeAt (p * placeSize) (a .area .now))) (a .items .now) (l .i) (a .from .value) (omega arith)) (lesser-none (theLeast (l .least))))
+    record { shown = sym (l .inv .1 ∙ rw (near-end (λ p. entries (placeAt (p * placeSize) (a .area .now))) (a .items .now) (l .i) (a .from .value) (omega arith)) (nearer-none (hitEntry (a .area .now) (l .hit)))); seated = l .inv .2 }
 
 pub in-newest-spec : {M : Type 1} → statement M
 in-newest-spec =
@@ -75,7 +76,7 @@ in-newest-spec =
     shared-slice-read-in-table
     cast-in-table
     in-table-requires
-    lesser-requires
+    nearer-requires
     loop-less
     loop-again
     returns)
