@@ -39,7 +39,7 @@ few c =
     omega (arith, c .loop-test .taken, c .before .loop .inv .0 .0, b .pre .0 .0 .counted (b .args .p) (b .pre .1 .0))
 
 link-at-requires : tie.Need-link-at-requires Inv-loop μ-loop
-link-at-requires c κs = (c .before .before .before .before .before .pre .1 .0, few c)
+link-at-requires c κs = (c .before .before .before .before .before .pre .1 .0, omega (arith, few c))
 
 -- The place that the link names.
 place-of : (c : tie.After-link-at Inv-loop μ-loop)

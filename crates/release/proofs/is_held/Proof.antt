@@ -16,7 +16,7 @@ held-from-requires : tie.Need-held-from-requires
 held-from-requires c κs =
     let b = c .before .before .before .before in
     let a = b .args in
-    (b .pre .0, (b .pre .1 .0, rw (c .holder .ensures) (rank-few (shownBy (a .area .now) (a .cards .now)) (c .before .least .result .value) (a .items .now))))
+    (b .pre .0, (b .pre .1 .0, rw (c .holder .ensures) (rank-few (shownBy (a .area .now) (a .cards .now)) _ (a .items .now))))
 
 returns : tie.Need-returns
 returns c =
