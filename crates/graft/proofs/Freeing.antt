@@ -1,17 +1,17 @@
 -- Which places are named and freed, over rows, is what it is in a store that fits: each row shows its card. One turn of the loops.
 use Prim.Native.Nat.{ℕ, zero, suc, _+_, _*_, _≤_, _<_}
 use mathlib.Core.Path.{_≡_, refl, sym, _∙_, ap}
-use mathlib.Core.Bool.{Bool, false, _||_}
+use mathlib.Core.Bool.{Bool, false, cond, _&&_, _||_}
 use mathlib.Core.List.{List, [], _∷_, _++_, map, List·Memᴰ, List·Memᴰ·head, List·Memᴰ·tail}
 use native.Mathlib.Omega.{arith}
 use native.Mathlib.Numerals.{add-one}
-use borrow.Author.Tests.{eqb-true, eqb-false}
-use lib.Dec.{eqb}
+use borrow.Author.Tests.{eqb-true, eqb-false, ltb-true, ltb-false, lt-ltb, le-ltb}
+use lib.Dec.{eqb, ltb}
 use lib.ListN.{length, getD, set, drop, length-map, length-set, drop-of-length-le}
 use lib.Seq.{drop-cons, getD-set-same, getD-set-other}
 use Rattle.table.specs.Table.{tableBytes}
 use Rattle.ldc.specs.Lists.{any, flat}
-use Rattle.ldc.specs.Store.{Link, Card, free, Store, card, links, linksOf, withCard}
+use Rattle.ldc.specs.Store.{Link, Card, free, Store, size, card, links, linksOf, withCard}
 use Rattle.ldc.specs.Lent.{linkCount, cardOf, rowOf, markWords, lentOf}
 use Rattle.ldc.specs.Rules.{named}
 use Rattle.ldc.specs.Steps.{release}
@@ -19,11 +19,13 @@ use Rattle.ldc.proofs.Basics.Cases.{cases}
 use Rattle.ldc.proofs.Basics.ListLaws.{getD-map}
 use Rattle.ldc.proofs.Lent.Parts.{card-back, count-rowOf, good-rowOf, padded}
 use Rattle.ldc.proofs.Lent.Changes.{cards-withCard}
+use Rattle.ldc.proofs.Stores.Changes.{card-same, card-other, size-withCard}
 use Rattle.ldc.proofs.Stores.Hang.{Beside}
-use Rattle.ldc.proofs.Stores.Release.{release-beside}
+use Rattle.ldc.proofs.Stores.Naming.{named-same}
+use Rattle.ldc.proofs.Stores.Release.{Bare, release-beside}
 use Rattle.book.specs.Row.{linkFrom, linkAt}
 use Rattle.book.proofs.Rows.{link-of, count-of}
-use Rattle.graft.specs.Release.{rowNames, namedIn, releasedOne, releasedIn, placesIn, Clear, AllClear}
+use Rattle.graft.specs.Release.{rowNames, namedIn, placesIn, freedIn, Clear}
 use Rattle.writer.proofs.Fitting.{few-cards}
 
 -- ---- the loops
@@ -51,17 +53,8 @@ names-end row i f k h =
     let none : drop i (linksOf (cardOf row)) ≡ [] = drop-of-length-le (linksOf (cardOf row)) {i = i} (omega arith) in
     rw none
 
-pub named-turn : (rows : List (List ℕ)) (q f : ℕ) → q < length rows
-    → namedIn f (drop q rows) ≡ (rowNames f (getD rows q []) || namedIn f (drop (q + 1) rows))
-unfolding namedIn
-named-turn rows q f h = any-turn (rowNames f) rows q [] h
-
-pub named-end : (rows : List (List ℕ)) (q f : ℕ) → length rows ≤ q → namedIn f (drop q rows) ≡ false
-unfolding namedIn
-named-end rows q f h = let none : drop q rows ≡ [] = drop-of-length-le rows {i = q} h in rw none
-
 -- The places still to be released.
-pub places-turn : (row : List ℕ) (i : ℕ) → Clear row → i < linkCount row
+places-turn : (row : List ℕ) (i : ℕ) → Clear row → i < linkCount row
     → drop i (placesIn row) ≡ getD row (2 + 3 * i) 0 ∷ drop (i + 1) (placesIn row)
 unfolding placesIn linkAt linkFrom
 places-turn row i k h =
@@ -72,31 +65,52 @@ places-turn row i k h =
     getD-map (λ (l : Link). l .place) (linksOf (cardOf row)) i d 0 (omega arith) ∙ ap (λ (l : Link). l .place) (link-of row i d (omega arith)) in
     drop-cons (map (λ (l : Link). l .place) (linksOf (cardOf row))) i 0 (omega arith) ∙ rw (add-one i, here)
 
-pub places-end : (row : List ℕ) (i : ℕ) → Clear row → linkCount row ≤ i → drop i (placesIn row) ≡ []
+places-end : (row : List ℕ) (i : ℕ) → Clear row → linkCount row ≤ i → drop i (placesIn row) ≡ []
 unfolding placesIn
 places-end row i k h =
     let long = count-of row (k .good) (k .few) in
     let many = length-map (linksOf (cardOf row)) (λ (l : Link). l .place) in
     drop-of-length-le (map (λ (l : Link). l .place) (linksOf (cardOf row))) {i = i} (omega arith)
 
--- Freeing keeps rows clear, and as many.
+-- One turn: this place is freed or not, by its flag.
+pub freed-turn : (held : List Bool) (row : List ℕ) (rows : List (List ℕ)) (i : ℕ) → Clear row → i < linkCount row → i < length held
+    → freedIn (drop i held) (drop i (placesIn row)) rows
+    ≡ freedIn (drop (i + 1) held) (drop (i + 1) (placesIn row)) (cond (getD held i false) rows (set rows (getD row (2 + 3 * i) 0) (rowOf free)))
+freed-turn held row rows i k h l = rw (places-turn row i k h, drop-cons held i false l, ← add-one i)
+
+pub freed-end : (held : List Bool) (row : List ℕ) (rows : List (List ℕ)) (i : ℕ) → Clear row → linkCount row ≤ i
+    → freedIn (drop i held) (drop i (placesIn row)) rows ≡ rows
+freed-end held row rows i k h = rw (places-end row i k h)
+
+pub length-freed : (b : Bool) (f : ℕ) (rows : List (List ℕ)) → length (cond b rows (set rows f (rowOf free))) ≡ length rows
+length-freed b f rows = cases b (λ q. rw q) (λ q. rw (q, length-set))
+
+-- No flag set yet, and one flag more.
+abbrev falses : ℕ → List Bool
+falses zero = []
+falses (suc n) = false ∷ falses n
+
+falses-at : (n j : ℕ) → getD (falses n) j false ≡ false
+falses-at zero j = refl
+falses-at (suc n) zero = refl
+falses-at (suc n) (suc j) = falses-at n j
+
+pub flags-none : (test : ℕ → Bool) (j : ℕ) → getD (falses 8) j false ≡ (ltb j 0 && test j)
+flags-none test j = rw (le-ltb j 0 (omega arith)) (falses-at 8 j)
+
+pub flags-turn : (test : ℕ → Bool) (flags : List Bool) (i : ℕ) (b : Bool) → i < length flags → b ≡ test i
+    → ((j : ℕ) → getD flags j false ≡ (ltb j i && test j)) → (j : ℕ) → getD (set flags i b) j false ≡ (ltb j (i + 1) && test j)
+flags-turn test flags i b l e h j =
+    cases (eqb j i)
+    (λ q. let ji : j ≡ i = eqb-true j i q in rw (ji, getD-set-same flags i b false l, lt-ltb i (i + 1) (omega arith)) e)
+    (λ q. let ne : j ≡ i → ⊥ = eqb-false j i q in
+    rw (getD-set-other flags i j b false ne, h j)
+    (cases (ltb j i)
+    (λ x. rw (x, lt-ltb j (i + 1) (omega (arith, ltb-true j i x))))
+    (λ x. rw (x, le-ltb j (i + 1) (omega (arith, ltb-false j i x, ne))))))
+
 pub clear-rowOf : (c : Card) → length (linksOf c) ≤ 8 → Clear (rowOf c)
 clear-rowOf c h = record { good = good-rowOf c; few = omega (arith, count-rowOf c) }
-
-pub length-released : (f : ℕ) (rows : List (List ℕ)) → length (releasedOne f rows) ≡ length rows
-unfolding releasedOne
-length-released f rows = cases (namedIn f rows) (λ q. rw q) (λ q. rw (q, length-set))
-
-pub clear-released : (f : ℕ) (rows : List (List ℕ)) → f < length rows → AllClear rows → AllClear (releasedOne f rows)
-unfolding releasedOne
-clear-released f rows below a p h =
-    cases (namedIn f rows)
-    (λ q. rw q (a p (rw q at h)))
-    (λ q. let hp : p < length (set rows f (rowOf free)) = rw q at h in
-    let near : p < length rows = omega (arith, length-set rows f (rowOf free)) in
-    rw q (cases (eqb p f)
-    (λ e. let pf : p ≡ f = eqb-true p f e in rw (pf, getD-set-same rows f (rowOf free) [] below) (clear-rowOf free (omega arith)))
-    (λ e. rw (getD-set-other rows f p (rowOf free) [] (eqb-false p f e)) (a p near))))
 
 -- ---- in a store
 
@@ -129,14 +143,33 @@ named-shown s few f =
     ∙ any-same (λ c. rowNames f (rowOf c)) (λ c. any (λ l. eqb (l .place) f) (linksOf c)) (s .cards)
     (λ c m. ap (λ (x : Card). any (λ l. eqb (l .place) f) (linksOf x)) (card-back c (few-cards s few c m)))
 
--- What the code leaves of the rows is lent of the store with these places released.
-pub released-shown : (fs : List ℕ) (s : Store) → ((p : ℕ) → length (links s p) ≤ 8) → releasedIn fs (lentOf s .cards) ≡ lentOf (release fs s) .cards
-unfolding releasedOne
-released-shown [] s few = refl
-released-shown (f ∷ fs) s few =
+-- To free a place whose card has no links changes no links.
+module _ (f : ℕ) (s : Store) (h : f < size s) (b : links s f ≡ []) where
+  freed-links : (q : ℕ) → links (withCard f free s) q ≡ links s q
+  unfolding links
+  freed-links q =
+      cases (eqb q f)
+      (λ e. let qf : q ≡ f = eqb-true q f e in rw (qf, card-same s f free h) (sym b))
+      (λ e. rw (card-other s f free q (eqb-false q f e)))
+
+  freed-bare : (fs : List ℕ) → Bare s fs → Bare (withCard f free s) fs
+  freed-bare fs o x m = (rw (size-withCard s f free) (o x m .0), freed-links x ∙ o x m .1)
+
+-- What the code leaves of the rows is lent of the store with these places released, if the flags say which of them are named.
+pub freed-shown : (fs : List ℕ) (held : List Bool) (s : Store) → ((p : ℕ) → length (links s p) ≤ 8) → Bare s fs → length fs ≤ length held
+    → ((i : ℕ) → i < length fs → getD held i false ≡ named s (getD fs i 0)) → freedIn held fs (lentOf s .cards) ≡ lentOf (release fs s) .cards
+freed-shown [] held s few b l h = refl
+freed-shown (f ∷ fs) [] s few b l h = absurd (omega arith)
+freed-shown (f ∷ fs) (x ∷ held) s few b l h =
+    let e : x ≡ named s f = h 0 (omega arith) in
+    let c = b f (List·Memᴰ·head refl) in
+    let later : Bare s fs = λ y m. b y (List·Memᴰ·tail m) in
+    let rest : (i : ℕ) → i < length fs → getD held i false ≡ named s (getD fs i 0) = λ i hi. h (suc i) (omega arith) in
     cases (named s f)
-    (λ q. rw (named-shown s few f, q) (released-shown fs s few))
-    (λ q. rw (named-shown s few f, q) (ap (releasedIn fs) (sym (cards-withCard s f free)) ∙ released-shown fs (withCard f free s) (few-freed f s few)))
+    (λ q. rw (e, q) (freed-shown fs held s few later (omega arith) rest))
+    (λ q. rw (e, q) (ap (freedIn held fs) (sym (cards-withCard s f free))
+    ∙ freed-shown fs held (withCard f free s) (few-freed f s few) (freed-bare f s (c .0) (c .1) fs later) (omega arith)
+    (λ i hi. rest i hi ∙ sym (named-same s (withCard f free s) (getD fs i 0) (freed-links f s (c .0) (c .1))))))
 
 -- The other pieces stay.
 module _ (fs : List ℕ) (s : Store) where

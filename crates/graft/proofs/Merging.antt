@@ -2,50 +2,49 @@
 -- list, the old place freed, and the frozen ones released. The list has room because the store after the merge is sound.
 use Prim.Native.Nat.{ℕ, _+_, _*_, _≤_, _<_}
 use mathlib.Core.Path.{_≡_, sym, _∙_, ap}
+use mathlib.Core.Bool.{Bool, true, false}
 use mathlib.Core.List.{List, [], map, List·Memᴰ}
 use native.Mathlib.Omega.{arith}
+use borrow.Author.Tests.{eqb-true, eqb-false, lt-ltb}
+use lib.Dec.{eqb}
 use lib.ListN.{length, getD, set, take, length-map, length-set}
+use lib.Seq.{getD-set-same, getD-set-other}
 use Rattle.table.specs.Limits.{placeSize}
 use Rattle.table.specs.Entry.{Entry}
 use Rattle.table.specs.Table.{tableBytes}
 use Rattle.ldc.specs.Lists.{flat}
-use Rattle.ldc.specs.Store.{Link, Card, free, Store, size, card, links, linksOf, level, withCard}
+use Rattle.ldc.specs.Store.{Link, Card, free, Store, size, card, links, linksOf, isFrozen, level, withCard}
 use Rattle.ldc.specs.Lent.{linkCount, cardOf, rowOf, lentOf}
 use Rattle.ldc.specs.Place.{writtenAll, placesTaken, freePlaces}
 use Rattle.ldc.specs.Tidy.{mergedTables}
 use Rattle.ldc.specs.Steps.{replaced, release, doMerge}
+use Rattle.ldc.specs.Rules.{named}
+use Rattle.ldc.proofs.Basics.Cases.{cases, clash}
 use Rattle.ldc.proofs.Basics.ListLaws.{mem-getD, getD-map}
 use Rattle.ldc.proofs.Lent.Changes.{cards-withCard}
 use Rattle.ldc.proofs.Lent.Parts.{card-back, count-rowOf}
 use Rattle.ldc.proofs.Lent.Round.{level-fits}
-use Rattle.ldc.proofs.Stores.CardFacts.{frozen-not-free}
-use Rattle.ldc.proofs.Stores.Changes.{below-size}
+use Rattle.ldc.proofs.Stores.CardFacts.{frozen-not-free, frozen-not-live, live-not-frozen, no-links}
+use Rattle.ldc.proofs.Stores.Changes.{below-size, card-other}
 use Rattle.ldc.proofs.Stores.Facts.{link-frozen}
+use Rattle.ldc.proofs.Stores.Naming.{named-same}
+use Rattle.ldc.proofs.Stores.Release.{Bare}
 use Rattle.ldc.proofs.Stores.Sound.{Sound}
 use Rattle.ldc.proofs.Stores.TableLaws.{tableBytes-long}
-use Rattle.ldc.proofs.Stores.Written.{Wrote}
+use Rattle.ldc.proofs.Stores.Written.{Wrote, wrote-links}
 use Rattle.ldc.proofs.Steps.StepFacts.{Merging}
-use Rattle.ldc.proofs.Steps.MergeShape.{p-occupied, merged-pieces, filled-wrote, merge-from, merge-size}
+use Rattle.ldc.proofs.Steps.MergeShape.{p-live, p-occupied, linked-frozen, merged-pieces, filled-wrote, merge-from, merge-size}
 use Rattle.ldc.proofs.Steps.Merge.{sound-merge}
 use Rattle.book.specs.Made.{lent}
 use Rattle.book.specs.Row.{linkFrom, linkAt}
 use Rattle.book.proofs.Rows.{link-of}
-use Rattle.graft.specs.Release.{releasedIn, placesIn, Clear, AllClear}
+use Rattle.graft.specs.Release.{namedIn, heldIn, placesIn, Flags, freedIn, Clear}
 use Rattle.writer.specs.Shown.{Fits, Shows}
 use Rattle.graft.specs.Tables.{Tables, placed, Placing}
 use Rattle.writer.proofs.Fitting.{row-shown}
-use Rattle.graft.proofs.Freeing.{clear-rowOf, few-freed, released-shown, area-released, lists-released, head-released, memory-released}
+use Rattle.graft.proofs.Freeing.{clear-rowOf, few-freed, named-shown, freed-shown, area-released, lists-released, head-released, memory-released}
 use Rattle.graft.proofs.Many.{length-taken, fits-all}
 use Rattle.graft.proofs.Placed.{length-new}
-
--- ---- rows
-
--- All rows of a store whose cards have at most eight links are clear.
-pub rows-clear : (s : Store) → ((p : ℕ) → length (links s p) ≤ 8) → AllClear (lentOf s .cards)
-unfolding lentOf links card
-rows-clear s few p h =
-    let near : p < length (s .cards) = omega (arith, length-map (s .cards) rowOf) in
-    rw (getD-map rowOf (s .cards) p free [] near) (clear-rowOf (getD (s .cards) p free) (few p))
 
 module _ (s : Store) (S : Sound s) (f : Fits s) (n p : ℕ) (g : Merging s n p) (enough : length (mergedTables s n p) ≤ freePlaces s) where
   -- the tables, their places, and the store with them written
@@ -97,15 +96,18 @@ module _ (s : Store) (S : Sound s) (f : Fits s) (n p : ℕ) (g : Merging s n p) 
   unfolding links placesIn
   row-places rows e = rw (e, row-shown s f p place-below, row-card)
 
-  -- Its links name places.
-  link-below : (i : ℕ) → i < length (links s p) → linkAt (rowOf (card s p)) i .place < size s
+  -- Its links, and the places that they name.
+  link-at : (i : ℕ) (d : Link) → i < length (links s p) → getD (links s p) i d ≡ linkAt (rowOf (card s p)) i
   unfolding links
+  link-at i d h =
+      let near : i < length (linksOf (cardOf (rowOf (card s p)))) = rw row-card h in
+      ap (λ (c : Card). getD (linksOf c) i d) (sym row-card) ∙ link-of (rowOf (card s p)) i d near
+
+  link-below : (i : ℕ) → i < length (links s p) → linkAt (rowOf (card s p)) i .place < size s
   link-below i h =
       let d : Link = record { place = 0; low = 0; high = 0 } in
-      let l : Link = getD (linksOf (card s p)) i d in
-      let near : i < length (linksOf (cardOf (rowOf (card s p)))) = rw row-card h in
-      let same : l ≡ linkAt (rowOf (card s p)) i = ap (λ (c : Card). getD (linksOf c) i d) (sym row-card) ∙ link-of (rowOf (card s p)) i d near in
-      rw (← same) (below-size s (l .place) (frozen-not-free (card s (l .place)) (link-frozen s S p l (mem-getD (linksOf (card s p)) i d h))))
+      let l : Link = getD (links s p) i d in
+      rw (← link-at i d h) (below-size s (l .place) (frozen-not-free (card s (l .place)) (link-frozen s S p l (mem-getD (links s p) i d h))))
 
   pub row-below : (rows : List (List ℕ)) → rows ≡ lentOf s .cards → (i : ℕ) → i < linkCount (getD rows p []) → getD (getD rows p []) (2 + 3 * i) 0 < size s
   unfolding links linkAt linkFrom
@@ -113,6 +115,58 @@ module _ (s : Store) (S : Sound s) (f : Fits s) (n p : ℕ) (g : Merging s n p) 
       let row : getD rows p [] ≡ rowOf (card s p) = ap (λ (x : List (List ℕ)). getD x p []) e ∙ row-shown s f p place-below in
       let near : i < length (linksOf (card s p)) = omega (arith, ap linkCount row, count-rowOf (card s p)) in
       rw row (link-below i near)
+
+  -- ---- what names the frozen places
+
+  cleared-links : (q : ℕ) → links cleared q ≡ links (withCard p free s) q
+  unfolding links card
+  cleared-links q =
+      cases (eqb q p)
+      (λ e. let qp : q ≡ p = eqb-true q p e in
+      rw (qp, getD-set-same (filled .cards) p free free (unfold size in omega (arith, place-below, wrote-filled .same-size)), getD-set-same (s .cards) p free free (unfold size in place-below)))
+      (λ e. rw (getD-set-other (filled .cards) p q free free (eqb-false q p e), getD-set-other (s .cards) p q free free (eqb-false q p e))
+      (unfold links card in wrote-links s filled qs ts wrote-filled q))
+
+  size-cleared : size cleared ≡ size s
+  unfolding size
+  size-cleared = length-set (filled .cards) p free ∙ wrote-filled .same-size
+
+  -- A frozen place has no links, before and after.
+  frozen-bare : (x : ℕ) → isFrozen (card s x) ≡ true → links cleared x ≡ []
+  unfolding links
+  frozen-bare x z =
+      let other : x ≡ p → ⊥ = λ e. clash (rw e at z) (live-not-frozen (card s p) (p-live s S n p (g .on) enough)) in
+      cleared-links x ∙ ap linksOf (card-other s p free x other) ∙ no-links (card s x) (frozen-not-live (card s x) z)
+
+  bare-cleared : Bare cleared (map (λ (l : Link). l .place) (links s p))
+  bare-cleared x m =
+      let z = linked-frozen s S n p (g .on) enough x m in
+      (omega (arith, below-size s x (frozen-not-free (card s x) z), size-cleared), frozen-bare x z)
+
+  held-named : (rows : List (List ℕ)) → rows ≡ lentOf s .cards → (x : ℕ) → heldIn p x rows ≡ named cleared x
+  unfolding heldIn
+  held-named rows e x =
+      ap (λ (r : List (List ℕ)). namedIn x (set r p (rowOf free))) e
+      ∙ ap (namedIn x) (sym (cards-withCard s p free))
+      ∙ named-shown (withCard p free s) (few-freed p s (f .few)) x
+      ∙ sym (named-same (withCard p free s) cleared x cleared-links)
+
+  row-count : linkCount (rowOf (card s p)) ≡ length (links s p)
+  unfolding links
+  row-count = count-rowOf (card s p)
+
+  -- The flags say of each place whether it is named when the old place is freed.
+  flags-named : (rows : List (List ℕ)) → rows ≡ lentOf s .cards → (held : List Bool) → Flags rows p held
+      → (i : ℕ) → i < length (map (λ (l : Link). l .place) (links s p)) → getD held i false ≡ named cleared (getD (map (λ (l : Link). l .place) (links s p)) i 0)
+  unfolding linkAt linkFrom
+  flags-named rows e held fl i h =
+      let d : Link = record { place = 0; low = 0; high = 0 } in
+      let row : getD rows p [] ≡ rowOf (card s p) = ap (λ (x : List (List ℕ)). getD x p []) e ∙ row-shown s f p place-below in
+      let near : i < length (links s p) = omega (arith, length-map (links s p) (λ (l : Link). l .place)) in
+      let count : i < linkCount (rowOf (card s p)) = omega (arith, row-count) in
+      let here : getD (map (λ (l : Link). l .place) (links s p)) i 0 ≡ getD (rowOf (card s p)) (2 + 3 * i) 0 =
+      getD-map (λ (l : Link). l .place) (links s p) i d 0 near ∙ ap (λ (l : Link). l .place) (link-at i d near) in
+      fl i ∙ rw (row, lt-ltb i (linkCount (rowOf (card s p))) count, here) (held-named rows e (getD (rowOf (card s p)) (2 + 3 * i) 0))
 
   -- ---- the level's list
 
@@ -153,14 +207,12 @@ module _ (s : Store) (S : Sound s) (f : Fits s) (n p : ℕ) (g : Merging s n p) 
       unfolding lentOf
       cleared-rows = ec′ ∙ ap (λ (rows : List (List ℕ)). set rows p (rowOf free)) (sh .cards) ∙ sym (cards-withCard (placed n p ts s) p free)
 
-      pub merge-clear : AllClear cards′
-      merge-clear = rw cleared-rows (rows-clear cleared few-cleared)
-
       pub merge-many : length cards′ ≡ size s
       merge-many = ap length ec′ ∙ length-set cards p (rowOf free) ∙ counted ∙ wrote-filled .same-size
 
       module _ (rows cards″ : List (List ℕ)) (memory : List ℕ) (er : rows ≡ lentOf s .cards)
-          (ec″ : cards″ ≡ releasedIn (placesIn (getD rows p [])) cards′)
+          (held : List Bool) (eight : length held ≡ 8) (fl : Flags rows p held)
+          (ec″ : cards″ ≡ freedIn held (placesIn (getD rows p [])) cards′)
           (em : memory ≡ lentOf s .memory) where
         area-done : area ≡ lentOf (release (map (λ (l : Link). l .place) (links s p)) cleared) .area
         unfolding lentOf
@@ -169,9 +221,10 @@ module _ (s : Store) (S : Sound s) (f : Fits s) (n p : ℕ) (g : Merging s n p) 
         cards-done : cards″ ≡ lentOf (release (map (λ (l : Link). l .place) (links s p)) cleared) .cards
         cards-done =
             ec″
-            ∙ ap (λ (xs : List ℕ). releasedIn xs cards′) (row-places rows er)
-            ∙ ap (releasedIn (map (λ (l : Link). l .place) (links s p))) cleared-rows
-            ∙ released-shown (map (λ (l : Link). l .place) (links s p)) cleared few-cleared
+            ∙ ap (λ (xs : List ℕ). freedIn held xs cards′) (row-places rows er)
+            ∙ ap (freedIn held (map (λ (l : Link). l .place) (links s p))) cleared-rows
+            ∙ freed-shown (map (λ (l : Link). l .place) (links s p)) held cleared few-cleared bare-cleared
+            (omega (arith, length-map (links s p) (λ (l : Link). l .place), f .few p)) (flags-named rows er held fl)
 
         lists-done : lists ≡ lentOf (release (map (λ (l : Link). l .place) (links s p)) cleared) .lists
         unfolding lentOf

@@ -10,7 +10,8 @@ ghost use Rattle.graft.specs.Merge.{Backed, Merges};
 use book::head::Head;
 
 // Does the merge of place p on level n, whose tables are the first k of `out`: they are written and take its place in the level's list; then it
-// is freed, and every frozen table that only its links named. What is left is said for every memory table.
+// is freed, and every frozen table that only its links named; which these are is asked first, while the level can be searched. What is left is
+// said for every memory table.
 pub fn finish_merge(
     area: &mut [u8],
     cards: &mut [[u64; 26]],
@@ -29,8 +30,11 @@ pub fn finish_merge(
         ⌝ }
 {
     let row = cards[p];
+    let start = n * cards.len();
+    let end = start + head.length_of(n);
+    let held = release::held_elsewhere(area, cards, &lists[start..end], p);
     let done = placing::write_all(area, cards, lists, head, n, p, out, k);
     row::set_state(cards, p, row::FREE);
-    release::release(cards, row);
+    release::release(cards, row, held);
     done
 }
