@@ -22,8 +22,7 @@ use contract.Monad.{Fun, fact}
 use types.Kit.{Given, Item, ‵, raw, some, given, later, _⊛_, ⋆, mean, _$_, _∵_, !, qed, move, keep, use1, use2, use3, split, join, pick, rewrite, fsplit, fjoin, feqL, frame, check, await, updating, now as at-once, show, done}
 use types.Tokens.{lft-new, lft-end}
 use denote.RattleType.{RattleType}
-use denote.Array.{Array}
-use denote.Builtin.{u64, unit}
+use denote.Builtin.{unit}
 use denote.Ref.{RefT}
 use denote.Slice.{sliceVal, MutSlice, ShrSlice, Room, finally}
 use denote.Steps.{only, heard, nothing}
@@ -31,6 +30,7 @@ use denote.Triple.Spec.{tripleOf}
 use denote.Triple.Statement.{Contract}
 use denote.Triple.Clauses.{ensured, lasts}
 use denote.Triple.Walked.{says}
+use Rattle.frames.proofs.Pieces.{Row}
 use Rattle.walks.proofs.Again.{LentAgain, lends-again, comes-back}
 use Rattle.walks.proofs.Shared.{LentShared, lends-shared, back-shared}
 use Rattle.cards.specs.Card.{rowsOf}
@@ -41,9 +41,6 @@ use Rattle.cards.proofs.unload as unload-fn
 
 abbrev pub R : RattleType
 R = T.the-row
-
-abbrev pub Row : RattleType
-Row = Array u64 26
 
 -- the contracts that the proofs cite
 module _ {M : Type 1} (𝓤 : URA M) (H : Heap 𝓤) (A : Atoms 𝓤) (at-mem : Memory → SProp 𝓤) (run : Routine → Fun 𝓤) where

@@ -24,10 +24,9 @@ use types.Kit.{Given, Item, ‵, raw, some, later, _⊛_, ⋆, _$_, _∵_, !, qe
 use types.Run.{look, init, stop, hop, fld, from, load, lit, addr, of-opd, bin, and-then, no-more, assigns, land, returns, returns-within, enter, alloc1, alloc0, params1, pass1, pass0}
 use types.Part.{agg, whole, sub, look-in}
 use types.Tokens.{lft-new, lft-end}
-use denote.RattleType.{RattleType, owns}
+use denote.RattleType.{owns}
 use denote.Laws.{Is, shows}
-use denote.Array.{Array}
-use denote.Builtin.{u8, u16, u64, unit, ArrayOf}
+use denote.Builtin.{u8, u16, unit}
 use denote.Ref.{RefT, ShrRef, ptr-vals, shr-tells, shr-copy}
 use denote.Slice.{sliceVal, MutSlice, ShrSlice, Room, finally, slice-vals, mut-slice-tells, shr-slice-tells, shr-slice-copy}
 use denote.Steps.{only, owned, peeks, heard, nothing}
@@ -40,8 +39,9 @@ use denote.Triple.Clauses.{ensured, lasts}
 use denote.Triple.Table.{entered, cited}
 use denote.Triple.Walked.{says, Stays, stay-none-slice, stay-none-ref, gave-slice, walkOf, goes-none-slice, goes-none-ref, goes-gave-slice, Walks, ends-at, walked, walk-meets}
 use denote.Exit.{yes}
-use denote.Signature.{Slot, plain}
+use denote.Signature.{plain}
 use Rattle.frames.proofs.Locals.{full, leave}
+use Rattle.frames.proofs.Pieces.{Row, Head, Mem, RowS, HeadS, MemS}
 use Rattle.walks.proofs.Again.{LentAgain, lends-again, comes-back}
 use Rattle.walks.proofs.Ended.{slice-ended}
 use Rattle.walks.proofs.Truth.{found-same, found-other}
@@ -49,7 +49,6 @@ use Rattle.walks.proofs.Branch.{leaves-if}
 use Rattle.cards.specs.Card.{rowsOf}
 use Rattle.cards.specs.declared.Card.{Card}
 use Rattle.cards.proofs.Words.{rows-length}
-use Rattle.cards.proofs.Card as T
 use Rattle.cards.proofs.load as load-fn
 use Rattle.cards.proofs.load.Symbol as load-def
 use Rattle.cards.proofs.load.Symbol.{name as #cards·load}
@@ -60,6 +59,7 @@ use Rattle.sound.specs.declared.Checked.{Checked}
 use Rattle.sound.proofs.Checked as K
 use Rattle.sound.proofs.Checked.Laws as K′
 use Rattle.lending.specs.Over.{Over}
+use Rattle.lending.proofs.Carry.{R, Load}
 use Rattle.lending.proofs.check_rows as core-fn
 use Rattle.lending.proofs.check_rows.Symbol as core-def
 use Rattle.lending.proofs.check_rows.Symbol.{name as #core}
@@ -69,36 +69,11 @@ use Rattle.lending.proofs.check as checks
 use Rattle.lending.proofs.check.Statement as stated
 use Rattle.lending.proofs.check.Code as code
 
-abbrev R : RattleType
-R = T.the-row
-
-abbrev Row : RattleType
-Row = Array u64 26
-
-abbrev Head : RattleType
-Head = Array u64 10
-
-abbrev Mem : RattleType
-Mem = Array u8 1024
-
--- the same as places in the signature
-abbrev RowS : Slot 6
-RowS = ArrayOf (plain (λ _. u64)) (λ _. tt) 26
-
-abbrev HeadS : Slot 6
-HeadS = ArrayOf (plain (λ _. u64)) (λ _. tt) 10
-
-abbrev MemS : Slot 6
-MemS = ArrayOf (plain (λ _. u8)) (λ _. tt) 1024
-
 abbrev stayed : Stays (checks.ended .signature .params) (checks.ended .kept)
 stayed = (stay-none-slice (0 ∷ []) tt (plain (λ _. u8)) yes, (stay-none-slice (1 ∷ []) tt (plain (λ _. R)) yes, (gave-slice (2 ∷ []) tt RowS, (stay-none-slice (3 ∷ []) tt (plain (λ _. u16)) yes, (stay-none-ref (4 ∷ []) tt HeadS yes, (stay-none-ref (5 ∷ []) tt MemS yes, tt))))))
 
--- the contracts that the proof cites
+-- the contract that the proof cites besides `load`'s
 module _ {M : Type 1} (𝓤 : URA M) (H : Heap 𝓤) (A : Atoms 𝓤) (at-mem : Memory → SProp 𝓤) (run : Routine → Fun 𝓤) where
-  abbrev Load : Contract 𝓤
-  Load = tripleOf 𝓤 H A load-fn.signature (load-fn.spec 𝓤 H A at-mem run)
-
   abbrev Core : Contract 𝓤
   Core = tripleOf 𝓤 H A core-fn.signature (core-fn.spec 𝓤 H A at-mem run)
 

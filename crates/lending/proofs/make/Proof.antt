@@ -23,11 +23,10 @@ use sound.WpLaws.{FmC, fmOf, WpFn-mono}
 use types.Kit.{Given, Item, ‵, raw, some, given, later, _⊛_, ⋆, mean, _$_, _∵_, !, qed, by, move, keep, group, use1, use2, split, join, pick, learn, fsplit, fjoin, feqL, suffices, frame, check, await, updating, now as at-once, show, done}
 use types.Run.{look, init, store, stop, hop, fld, from, load, lit, addr, of-opd, bin, and-then, no-more, assigns, land, returns, returns-within, enter, alloc1, alloc0, params1, pass1, pass0}
 use types.Part.{agg, whole, sub, look-in}
-use denote.RattleType.{RattleType, owns}
+use denote.RattleType.{owns}
 use denote.Laws.{Is, shows}
 use denote.Plain.{uint-makes, uint-vals, uint-tells, uint-lawful}
-use denote.Array.{Array}
-use denote.Builtin.{u8, u16, u64, ArrayOf}
+use denote.Builtin.{u8, u16, u64}
 use denote.Ref.{RefT, MutRef, ptr-vals, mut-tells}
 use denote.Slice.{sliceVal, MutSlice, Room, finally, slice-vals, mut-slice-tells}
 use denote.Steps.{owned, peeks, heard, nothing}
@@ -40,8 +39,9 @@ use denote.Triple.Clauses.{ensured, lasts}
 use denote.Triple.Table.{entered, cited}
 use denote.Triple.Walked.{says, Stays, stay-none, stay-slice, gave-slice, gave-ref, walkOf, goes-none, goes-slice, goes-gave-slice, goes-gave-ref, Walks, ends-at, walked, walk-meets}
 use denote.Exit.{yes}
-use denote.Signature.{Slot, plain}
+use denote.Signature.{plain}
 use Rattle.frames.proofs.Locals.{full, bare, leave}
+use Rattle.frames.proofs.Pieces.{Row, Head, Mem, RowS, HeadS, MemS}
 use Rattle.walks.proofs.Ended.{slice-ended, ref-ended}
 use Rattle.walks.proofs.Truth.{found-same, found-other}
 use Rattle.walks.proofs.Branch.{leaves-if}
@@ -57,7 +57,7 @@ use Rattle.cards.proofs.unload.Met as unload-thm
 use Rattle.ldc.specs.Run.{make as makes}
 use Rattle.book.specs.Made.{lent, made}
 use Rattle.lending.specs.Over.{Over}
-use Rattle.lending.proofs.Carry.{R, Row, Load, Unload, Lent, Pair, Both, Cards, Rows, rows-as, Rows-again, Rows-kept, To-load, lends-load, loading, Loaded, backs-load, To-rows, lends-rows, backs-rows, To-unload, lends-unload, unloading, Unloaded, backs-unload}
+use Rattle.lending.proofs.Carry.{R, Load, Unload, Lent, Pair, Both, Cards, Rows, rows-as, Rows-again, Rows-kept, To-load, lends-load, loading, Loaded, backs-load, To-rows, lends-rows, backs-rows, To-unload, lends-unload, unloading, Unloaded, backs-unload}
 use Rattle.make.proofs.make as core-fn
 use Rattle.make.proofs.make.Symbol as core-def
 use Rattle.make.proofs.make.Symbol.{name as #core}
@@ -66,22 +66,6 @@ use Rattle.lending.proofs.make.Key.{name as #lending·make}
 use Rattle.lending.proofs.make as make
 use Rattle.lending.proofs.make.Statement as stated
 use Rattle.lending.proofs.make.Code as code
-
-abbrev Head : RattleType
-Head = Array u64 10
-
-abbrev Mem : RattleType
-Mem = Array u8 1024
-
--- the arrays as places in the signature
-abbrev RowS : Slot 6
-RowS = ArrayOf (plain (λ _. u64)) (λ _. tt) 26
-
-abbrev HeadS : Slot 6
-HeadS = ArrayOf (plain (λ _. u64)) (λ _. tt) 10
-
-abbrev MemS : Slot 6
-MemS = ArrayOf (plain (λ _. u8)) (λ _. tt) 1024
 
 abbrev stayed : Stays (make.ended .signature .params) (make.ended .kept)
 stayed = (gave-slice (0 ∷ []) tt (plain (λ _. u8)), (gave-slice (1 ∷ []) tt (plain (λ _. R)), (stay-slice (2 ∷ []) tt RowS, (gave-slice (3 ∷ []) tt (plain (λ _. u16)), (gave-ref (4 ∷ []) tt HeadS, (gave-ref (5 ∷ []) tt MemS, (stay-none (λ _. u64) yes, tt)))))))

@@ -23,10 +23,9 @@ use sound.WpLaws.{FmC, fmOf, WpFn-mono}
 use types.Kit.{Given, Item, ‵, raw, some, given, later, _⊛_, ⋆, mean, _$_, _∵_, !, qed, by, move, keep, group, use1, use2, split, join, pick, learn, fsplit, fjoin, feqL, suffices, frame, check, await, updating, now as at-once, show, done}
 use types.Run.{look, init, store, stop, hop, fld, from, load, lit, addr, of-opd, bin, and-then, no-more, assigns, land, returns, returns-within, enter, alloc1, alloc0, params1, pass1, pass0}
 use types.Part.{agg, whole, sub, look-in}
-use denote.RattleType.{RattleType, owns}
+use denote.RattleType.{owns}
 use denote.Laws.{Is, shows}
-use denote.Array.{Array}
-use denote.Builtin.{u8, u16, u64, ArrayOf}
+use denote.Builtin.{u8, u16}
 use denote.Ref.{RefT, MutRef, ptr-vals, mut-tells}
 use denote.Slice.{sliceVal, MutSlice, ShrSlice, Room, finally, slice-vals, mut-slice-tells, shr-slice-tells, shr-slice-copy}
 use denote.Steps.{owned, peeks, heard, nothing}
@@ -39,8 +38,9 @@ use denote.Triple.Clauses.{ensured, lasts}
 use denote.Triple.Table.{entered, cited}
 use denote.Triple.Walked.{says, Stays, stay-slice, stay-none-slice, gave-slice, gave-ref, walkOf, goes-slice, goes-none-slice, goes-gave-slice, goes-gave-ref, Walks, ends-at, walked, walk-meets}
 use denote.Exit.{yes}
-use denote.Signature.{Slot, plain}
+use denote.Signature.{plain}
 use Rattle.frames.proofs.Locals.{full, bare, leave}
+use Rattle.frames.proofs.Pieces.{Row, Head, Mem, RowS, HeadS, MemS}
 use Rattle.walks.proofs.Ended.{slice-ended, ref-ended}
 use Rattle.walks.proofs.Truth.{found-same, found-other}
 use Rattle.walks.proofs.Branch.{leaves-if}
@@ -60,7 +60,7 @@ use Rattle.run.specs.declared.Ran.{Ran}
 use Rattle.run.proofs.Ran as K
 use Rattle.run.proofs.Ran.Laws as K′
 use Rattle.lending.specs.Over.{Over}
-use Rattle.lending.proofs.Carry.{R, Row, Load, Unload, Lent, Pair, Both, Cards, Rows, rows-as, Rows-again, Rows-kept, To-load, lends-load, loading, Loaded, backs-load, To-rows, lends-rows, backs-rows, To-unload, lends-unload, unloading, Unloaded, backs-unload}
+use Rattle.lending.proofs.Carry.{R, Load, Unload, Lent, Pair, Both, Cards, Rows, rows-as, Rows-again, Rows-kept, To-load, lends-load, loading, Loaded, backs-load, To-rows, lends-rows, backs-rows, To-unload, lends-unload, unloading, Unloaded, backs-unload}
 use Rattle.run.proofs.run as core-fn
 use Rattle.run.proofs.run.Symbol as core-def
 use Rattle.run.proofs.run.Symbol.{name as #core}
@@ -69,22 +69,6 @@ use Rattle.lending.proofs.run.Key.{name as #lending·run}
 use Rattle.lending.proofs.run as runs
 use Rattle.lending.proofs.run.Statement as stated
 use Rattle.lending.proofs.run.Code as code
-
-abbrev Head : RattleType
-Head = Array u64 10
-
-abbrev Mem : RattleType
-Mem = Array u8 1024
-
--- the arrays as places in the signature
-abbrev RowS : Slot 8
-RowS = ArrayOf (plain (λ _. u64)) (λ _. tt) 26
-
-abbrev HeadS : Slot 8
-HeadS = ArrayOf (plain (λ _. u64)) (λ _. tt) 10
-
-abbrev MemS : Slot 8
-MemS = ArrayOf (plain (λ _. u8)) (λ _. tt) 1024
 
 abbrev stayed : Stays (runs.ended .signature .params) (runs.ended .kept)
 stayed = (gave-slice (0 ∷ []) tt (plain (λ _. u8)), (gave-slice (1 ∷ []) tt (plain (λ _. R)), (stay-slice (2 ∷ []) tt RowS, (gave-slice (3 ∷ []) tt (plain (λ _. u16)), (gave-ref (4 ∷ []) tt HeadS, (gave-ref (5 ∷ []) tt MemS, (stay-none-slice (6 ∷ []) tt (plain (λ _. u8)) yes, (gave-slice (7 ∷ []) tt (plain (λ _. u8)), tt))))))))
