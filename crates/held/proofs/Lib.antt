@@ -1,3 +1,5 @@
--- What the proofs of `held` share.
---   Local   a local array of structs, lent as a slice, and back
+-- What the walks of `held` share.
+--   Local   a local array of structs, lent as a slice for a call, and back
+--   Lent    the same of 32 cards
 pub mod Local
+pub mod Lent

@@ -33,8 +33,7 @@ use denote.RattleType.{RattleType, owns}
 use denote.Memory.{pointee}
 use denote.Laws.{Is, shows}
 use denote.Plain.{uint-makes}
-use denote.Array.{Array}
-use denote.Builtin.{u64, usize, unit, ArrayOf}
+use denote.Builtin.{usize, unit}
 use denote.Ref.{RefT}
 use denote.Slice.{sliceTy, sliceVal, MutSlice, ShrSlice, Room, slice-vals, mut-slice-tells, shr-slice-tells, shr-slice-copy}
 use denote.Steps.{only, owned, peeks, heard, nothing}
@@ -47,7 +46,8 @@ use denote.Triple.Clauses.{ensured, lasts}
 use denote.Triple.Table.{entered, cited}
 use denote.Triple.Walked.{says, needs, Stays, stay-none-slice, stay-slice, walkOf, goes-none-slice, goes-slice, Walks, ends-at, walked, walk-meets}
 use denote.Exit.{yes}
-use denote.Signature.{Slot, plain}
+use denote.Signature.{plain}
+use Rattle.frames.proofs.Pieces.{Row, RowS}
 use Rattle.walks.proofs.Index.{one-more}
 use Rattle.walks.proofs.Truth.{below, not-below}
 use Rattle.walks.proofs.Again.{LentAgain, lends-again, comes-back}
@@ -72,12 +72,6 @@ use Rattle.cards.proofs.load.Code.Mir as mir
 
 abbrev R : RattleType
 R = T.the-row
-
-abbrev Row : RattleType
-Row = Array u64 26
-
-abbrev RowS : Slot 2
-RowS = ArrayOf (plain (λ _. u64)) (λ _. tt) 26
 
 abbrev stayed : Stays (loads.ended .signature .params) (loads.ended .kept)
 stayed = (stay-none-slice (0 ∷ []) tt (plain (λ _. R)) yes, (stay-slice (1 ∷ []) tt RowS, tt))

@@ -21,13 +21,12 @@ use contract.Running.{givenOf, tables, tablesOf}
 use contract.Lifetimes.{AllOutlive}
 use sound.WpLaws.{FmC, fmOf, WpFn-mono}
 use types.Kit.{Given, Item, ‵, raw, some, later, _⊛_, ⋆, _$_, _∵_, !, qed, by, move, keep, use1, use2, use3, split, join, pick, rewrite, fsplit, fjoin, feqL, suffices, frame, await, done}
-use types.Run.{look, init, forget, stop, hop, fld, from, load, lit, addr, of-opd, bin, and-then, no-more, assigns, land, returns, returns-within, enter, alloc1, alloc0, params1, pass1, pass0, free1, free0}
+use types.Run.{look, init, stop, hop, fld, from, load, lit, addr, of-opd, bin, and-then, no-more, assigns, land, returns, returns-within, enter, alloc1, alloc0, params1, pass1, pass0}
 use types.Part.{agg, whole, sub, look-in}
 use types.Tokens.{lft-new, lft-end}
-use denote.RattleType.{RattleType, owns}
+use denote.RattleType.{owns}
 use denote.Laws.{Is, shows}
-use denote.Array.{Array}
-use denote.Builtin.{u8, u16, u64, unit, ArrayOf}
+use denote.Builtin.{u8, u16, unit}
 use denote.Ref.{RefT, ShrRef, ptr-vals, shr-tells, shr-copy}
 use denote.Slice.{sliceVal, MutSlice, ShrSlice, Room, finally, slice-vals, mut-slice-tells, shr-slice-tells, shr-slice-copy}
 use denote.Steps.{only, owned, peeks, heard, nothing}
@@ -40,7 +39,9 @@ use denote.Triple.Clauses.{ensured, lasts}
 use denote.Triple.Table.{entered, cited}
 use denote.Triple.Walked.{says, Stays, stay-none-slice, stay-none-ref, gave-slice, walkOf, goes-none-slice, goes-none-ref, goes-gave-slice, Walks, ends-at, walked, walk-meets}
 use denote.Exit.{yes}
-use denote.Signature.{Slot, plain}
+use denote.Signature.{plain}
+use Rattle.frames.proofs.Locals.{full, leave}
+use Rattle.frames.proofs.Pieces.{Row, Head, Mem, RowS, HeadS, MemS}
 use Rattle.walks.proofs.Again.{LentAgain, lends-again, comes-back}
 use Rattle.walks.proofs.Ended.{slice-ended}
 use Rattle.walks.proofs.Truth.{found-same, found-other}
@@ -48,7 +49,6 @@ use Rattle.walks.proofs.Branch.{leaves-if}
 use Rattle.cards.specs.Card.{rowsOf}
 use Rattle.cards.specs.declared.Card.{Card}
 use Rattle.cards.proofs.Words.{rows-length}
-use Rattle.cards.proofs.Card as T
 use Rattle.cards.proofs.load as load-fn
 use Rattle.cards.proofs.load.Symbol as load-def
 use Rattle.cards.proofs.load.Symbol.{name as #cards·load}
@@ -59,6 +59,7 @@ use Rattle.sound.specs.declared.Checked.{Checked}
 use Rattle.sound.proofs.Checked as K
 use Rattle.sound.proofs.Checked.Laws as K′
 use Rattle.lending.specs.Over.{Over}
+use Rattle.lending.proofs.Carry.{R, Load}
 use Rattle.lending.proofs.check_rows as core-fn
 use Rattle.lending.proofs.check_rows.Symbol as core-def
 use Rattle.lending.proofs.check_rows.Symbol.{name as #core}
@@ -68,36 +69,11 @@ use Rattle.lending.proofs.check as checks
 use Rattle.lending.proofs.check.Statement as stated
 use Rattle.lending.proofs.check.Code as code
 
-abbrev R : RattleType
-R = T.the-row
-
-abbrev Row : RattleType
-Row = Array u64 26
-
-abbrev Head : RattleType
-Head = Array u64 10
-
-abbrev Mem : RattleType
-Mem = Array u8 1024
-
--- the same as places in the signature
-abbrev RowS : Slot 6
-RowS = ArrayOf (plain (λ _. u64)) (λ _. tt) 26
-
-abbrev HeadS : Slot 6
-HeadS = ArrayOf (plain (λ _. u64)) (λ _. tt) 10
-
-abbrev MemS : Slot 6
-MemS = ArrayOf (plain (λ _. u8)) (λ _. tt) 1024
-
 abbrev stayed : Stays (checks.ended .signature .params) (checks.ended .kept)
 stayed = (stay-none-slice (0 ∷ []) tt (plain (λ _. u8)) yes, (stay-none-slice (1 ∷ []) tt (plain (λ _. R)) yes, (gave-slice (2 ∷ []) tt RowS, (stay-none-slice (3 ∷ []) tt (plain (λ _. u16)) yes, (stay-none-ref (4 ∷ []) tt HeadS yes, (stay-none-ref (5 ∷ []) tt MemS yes, tt))))))
 
--- the contracts that the proof cites
+-- the contract that the proof cites besides `load`'s
 module _ {M : Type 1} (𝓤 : URA M) (H : Heap 𝓤) (A : Atoms 𝓤) (at-mem : Memory → SProp 𝓤) (run : Routine → Fun 𝓤) where
-  abbrev Load : Contract 𝓤
-  Load = tripleOf 𝓤 H A load-fn.signature (load-fn.spec 𝓤 H A at-mem run)
-
   abbrev Core : Contract 𝓤
   Core = tripleOf 𝓤 H A core-fn.signature (core-fn.spec 𝓤 H A at-mem run)
 
@@ -209,9 +185,7 @@ module _ {M : Type 1} (𝓤 : URA M) (H : Heap 𝓤) (A : Atoms 𝓤) (W : Given
         (λ other.
         assigns ! (agg ! (and-then ! (lit ! tt) (and-then ! (lit ! tt) (no-more !)))) (from ! (stop !)) (init ! 42 refl (LL.lawful K.the-type K′.the-laws 𝓤 H A W .typed refusal _ refusal-is .0)) $
         returns-within ! Post refl (look ! 42 refl) $
-        forget ! 24 refl $ forget ! 26 refl $ forget ! 28 refl $ forget ! 30 refl $ forget ! 32 refl $ forget ! 34 refl $ forget ! 36 refl $ forget ! 38 refl $ forget ! 40 refl $ forget ! 42 refl $
-        move ! (42 ∷ 43 ∷ []) $ free1 ! $ move ! (40 ∷ 41 ∷ []) $ free1 ! $ move ! (38 ∷ 39 ∷ []) $ free1 ! $ move ! (36 ∷ 37 ∷ []) $ free1 ! $ move ! (34 ∷ 35 ∷ []) $ free1 ! $ move ! (32 ∷ 33 ∷ []) $ free1 ! $ move ! (30 ∷ 31 ∷ []) $ free1 ! $ move ! (28 ∷ 29 ∷ []) $ free1 ! $
-        move ! (26 ∷ 27 ∷ []) $ free1 ! $ move ! (24 ∷ 25 ∷ []) $ free1 ! $ move ! (22 ∷ 23 ∷ []) $ free1 ! $ move ! (20 ∷ 21 ∷ []) $ free1 ! $ move ! (18 ∷ 19 ∷ []) $ free1 ! $ move ! (16 ∷ 17 ∷ []) $ free1 ! $ move ! (14 ∷ 15 ∷ []) $ free1 ! $ free0 ! $
+        leave ! 14 (full _ ∷ full _ ∷ full _ ∷ full _ ∷ full _ ∷ full _ ∷ full _ ∷ full _ ∷ full _ ∷ full _ ∷ []) refl $
         move ! (11 ∷ []) $ use1 W (‵ (finally Row (x₃ .name) (x₃ .now))) (slice-ended 𝓤 H A W Row (named 2) κ₂ x₃ _) $
         owned ! K.the-row (Is K.the-row) (LL.makes K.the-type K′.the-plain 𝓤 H A) refusal _ refusal-is $ nothing ! $ move ! (10 ∷ 0 ∷ []) $ fjoin ! $ move ! (11 ∷ 0 ∷ []) $ fjoin ! $ move ! (11 ∷ 0 ∷ []) $ fjoin ! $ move ! (2 ∷ 0 ∷ []) $ fjoin ! $ move ! (10 ∷ 0 ∷ []) $ fjoin ! $ move ! (10 ∷ 0 ∷ []) $ fjoin ! $
         nothing ! $ move ! (3 ∷ 0 ∷ []) $ join ! $ move ! (4 ∷ 0 ∷ []) $ join ! $ move ! (4 ∷ 0 ∷ []) $ join ! $ move ! (4 ∷ 0 ∷ []) $ join ! $ move ! (4 ∷ 0 ∷ []) $ join ! $ move ! (4 ∷ 0 ∷ []) $ join ! $
@@ -249,9 +223,7 @@ module _ {M : Type 1} (𝓤 : URA M) (H : Heap 𝓤) (A : Atoms 𝓤) (W : Given
         land ! (from ! (stop !)) (init ! 47 refl (LL.lawful K.the-type K′.the-laws 𝓤 H A W .typed r _ is .0)) $
         move ! (1 ∷ []) $ split ! $ move ! (1 ∷ []) $ split ! $ move ! (1 ∷ []) $ split ! $ move ! (1 ∷ []) $ split ! $ move ! (1 ∷ []) $ split ! $
         returns ! (look ! 52 refl) $
-        forget ! 24 refl $ forget ! 26 refl $ forget ! 28 refl $ forget ! 30 refl $ forget ! 32 refl $ forget ! 34 refl $ forget ! 36 refl $ forget ! 38 refl $ forget ! 40 refl $ forget ! 42 refl $ forget ! 44 refl $ forget ! 46 refl $ forget ! 48 refl $ forget ! 50 refl $ forget ! 52 refl $
-        move ! (52 ∷ 53 ∷ []) $ free1 ! $ move ! (50 ∷ 51 ∷ []) $ free1 ! $ move ! (48 ∷ 49 ∷ []) $ free1 ! $ move ! (46 ∷ 47 ∷ []) $ free1 ! $ move ! (44 ∷ 45 ∷ []) $ free1 ! $ move ! (42 ∷ 43 ∷ []) $ free1 ! $ move ! (40 ∷ 41 ∷ []) $ free1 ! $ move ! (38 ∷ 39 ∷ []) $ free1 ! $
-        move ! (36 ∷ 37 ∷ []) $ free1 ! $ move ! (34 ∷ 35 ∷ []) $ free1 ! $ move ! (32 ∷ 33 ∷ []) $ free1 ! $ move ! (30 ∷ 31 ∷ []) $ free1 ! $ move ! (28 ∷ 29 ∷ []) $ free1 ! $ move ! (26 ∷ 27 ∷ []) $ free1 ! $ move ! (24 ∷ 25 ∷ []) $ free1 ! $ free0 ! $
+        leave ! 24 (full _ ∷ full _ ∷ full _ ∷ full _ ∷ full _ ∷ full _ ∷ full _ ∷ full _ ∷ full _ ∷ full _ ∷ full _ ∷ full _ ∷ full _ ∷ full _ ∷ full _ ∷ []) refl $
         nothing ! $ move ! (14 ∷ 0 ∷ []) $ fjoin ! $ move ! (14 ∷ 0 ∷ []) $ fjoin ! $ move ! (14 ∷ 0 ∷ []) $ fjoin ! $ move ! (12 ∷ 0 ∷ []) $ fjoin ! $ move ! (18 ∷ 0 ∷ []) $ fjoin ! $ move ! (13 ∷ 0 ∷ []) $ fjoin ! $
         nothing ! $ move ! (2 ∷ 0 ∷ []) $ join ! $ move ! (3 ∷ 0 ∷ []) $ join ! $ move ! (3 ∷ 0 ∷ []) $ join ! $ move ! (3 ∷ 0 ∷ []) $ join ! $ move ! (11 ∷ 0 ∷ []) $ join ! $ move ! (3 ∷ 0 ∷ []) $ join ! $
         move ! (0 ∷ 1 ∷ 3 ∷ []) $ keep ! (0 ∷ 1 ∷ 2 ∷ []) $ by ! (exits r w (z .1 .0) ((λ _. e₂), (λ ne. absurd (ne (found-same (length (x₃ .now)) (length (x₂ .now)) not-other)))) (l₃ ∙ (rows-length (x₂ .now) ∙ sym (found-same (length (x₃ .now)) (length (x₂ .now)) not-other))))))))))))))))))))))))))))))))))
