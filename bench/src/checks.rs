@@ -1,8 +1,8 @@
 //! What a check costs at several sizes, on stores that are full of tables and links: the fixed cost of every run.
 
 use crate::clock::timed;
-use crate::proved;
 use crate::rounds::median;
+use differential::check_in_place;
 use reference::generate::full::full;
 use reference::generate::random::Random;
 use reference::lent::{Lent, HEAD_LENGTHS, ROW_COUNT};
@@ -25,7 +25,7 @@ pub fn check_times(seed: u64, places: usize, rounds: usize, with_second: bool) -
     let mut lent: Lent = full(&mut Random::new(seed), places).encode();
     let (mut one, mut other) = (Vec::new(), Vec::new());
     for _ in 0..rounds {
-        one.push(timed(|| assert_eq!(proved::check(&mut lent), (0, 0), "a sound store")));
+        one.push(timed(|| assert_eq!(check_in_place(&mut lent), (0, 0), "a sound store")));
         if with_second {
             other.push(timed(|| assert_eq!(rules::check(&lent).number, 0, "a sound store")));
         }
