@@ -30,7 +30,7 @@ use denote.Triple.Spec.{tripleOf}
 use denote.Triple.Statement.{Contract}
 use denote.Triple.Clauses.{ensured, lasts}
 use denote.Triple.Walked.{says}
-use Rattle.frames.proofs.Pieces.{Row}
+use Rattle.walks.proofs.Pieces.{Row}
 use Rattle.walks.proofs.Again.{LentAgain, lends-again, comes-back}
 use Rattle.walks.proofs.Shared.{LentShared, lends-shared, back-shared}
 use Rattle.cards.specs.Card.{rowsOf}

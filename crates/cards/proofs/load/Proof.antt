@@ -47,7 +47,7 @@ use denote.Triple.Table.{entered, cited}
 use denote.Triple.Walked.{says, needs, Stays, stay-none-slice, stay-slice, walkOf, goes-none-slice, goes-slice, Walks, ends-at, walked, walk-meets}
 use denote.Exit.{yes}
 use denote.Signature.{plain}
-use Rattle.frames.proofs.Pieces.{Row, RowS}
+use Rattle.walks.proofs.Pieces.{Row, RowS}
 use Rattle.walks.proofs.Index.{one-more}
 use Rattle.walks.proofs.Truth.{below, not-below}
 use Rattle.walks.proofs.Again.{LentAgain, lends-again, comes-back}

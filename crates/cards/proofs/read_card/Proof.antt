@@ -34,7 +34,7 @@ use denote.Triple.Table.{entered}
 use denote.Triple.Walked.{says, needs, Stays, stay-none, stay-none-slice, walkOf, goes-none, goes-none-slice, Walks, ends-at, walked, walk-meets}
 use denote.Exit.{yes}
 use denote.Signature.{plain}
-use Rattle.frames.proofs.Locals.{full, leave}
+use Rattle.walks.proofs.Locals.{full, leave}
 use Rattle.walks.proofs.Index.{scaled}
 use Rattle.cards.specs.Card.{noCard}
 use Rattle.cards.specs.declared.Card.{Card}

@@ -57,8 +57,8 @@ use Rattle.lending.proofs.run as core-fn
 use Rattle.lending.proofs.run.Symbol as core-def
 use Rattle.lending.proofs.run.Symbol.{name as #core}
 use Rattle.lending.proofs.run.Met as core-thm
-use Rattle.frames.proofs.Locals.{full, leave}
-use Rattle.frames.proofs.Pieces.{Row, Head, Mem, RowS, HeadS, MemS}
+use Rattle.walks.proofs.Locals.{full, leave}
+use Rattle.walks.proofs.Pieces.{Row, Head, Mem, RowS, HeadS, MemS}
 use Rattle.held.proofs.Local.{array-field}
 use Rattle.held.proofs.Lent.{R, Cards, cells-of, Call, Cell, lent-cards, Slice, Kept, Lending, lends-cards, Back, backs-cards}
 use Rattle.held.proofs.serve.Key.{name as #held·serve}

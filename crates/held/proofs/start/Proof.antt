@@ -54,8 +54,8 @@ use Rattle.lending.proofs.make as core-fn
 use Rattle.lending.proofs.make.Symbol as core-def
 use Rattle.lending.proofs.make.Symbol.{name as #core}
 use Rattle.lending.proofs.make.Met as core-thm
-use Rattle.frames.proofs.Locals.{full, leave}
-use Rattle.frames.proofs.Pieces.{Row, Head, Mem, RowS, HeadS, MemS}
+use Rattle.walks.proofs.Locals.{full, leave}
+use Rattle.walks.proofs.Pieces.{Row, Head, Mem, RowS, HeadS, MemS}
 use Rattle.held.proofs.Local.{array-field}
 use Rattle.held.proofs.Lent.{R, Cards, cells-of, Call, Cell, lent-cards, Slice, Kept, Lending, lends-cards, Back, backs-cards}
 use Rattle.held.proofs.start.Key.{name as #held·start}

@@ -40,8 +40,8 @@ use denote.Triple.Table.{entered, cited}
 use denote.Triple.Walked.{says, Stays, stay-none-slice, stay-none-ref, gave-slice, walkOf, goes-none-slice, goes-none-ref, goes-gave-slice, Walks, ends-at, walked, walk-meets}
 use denote.Exit.{yes}
 use denote.Signature.{plain}
-use Rattle.frames.proofs.Locals.{full, leave}
-use Rattle.frames.proofs.Pieces.{Row, Head, Mem, RowS, HeadS, MemS}
+use Rattle.walks.proofs.Locals.{full, leave}
+use Rattle.walks.proofs.Pieces.{Row, Head, Mem, RowS, HeadS, MemS}
 use Rattle.walks.proofs.Again.{LentAgain, lends-again, comes-back}
 use Rattle.walks.proofs.Ended.{slice-ended}
 use Rattle.walks.proofs.Truth.{found-same, found-other}

@@ -39,8 +39,8 @@ use denote.Triple.Table.{entered, cited}
 use denote.Triple.Walked.{says, Stays, stay-slice, stay-none-slice, gave-slice, gave-ref, walkOf, goes-slice, goes-none-slice, goes-gave-slice, goes-gave-ref, Walks, ends-at, walked, walk-meets}
 use denote.Exit.{yes}
 use denote.Signature.{plain}
-use Rattle.frames.proofs.Locals.{full, bare, leave}
-use Rattle.frames.proofs.Pieces.{Row, Head, Mem, RowS, HeadS, MemS}
+use Rattle.walks.proofs.Locals.{full, bare, leave}
+use Rattle.walks.proofs.Pieces.{Row, Head, Mem, RowS, HeadS, MemS}
 use Rattle.walks.proofs.Ended.{slice-ended, ref-ended}
 use Rattle.walks.proofs.Truth.{found-same, found-other}
 use Rattle.walks.proofs.Branch.{leaves-if}

@@ -1,1 +1,0 @@
-// Pieces that proofs by hand share beside those of `walks`: locals, and the types of what is lent. It has no code.
