@@ -1,16 +1,18 @@
--- Free places over rows are those of a store whose cards the rows show.
-use Prim.Native.Nat.{ℕ, zero, suc, _<_}
-use mathlib.Core.Path.{_≡_, refl, sym, _∙_}
+-- Free places over rows are those of a store whose cards the rows show; and one turn of the loops that seek and count them.
+use Prim.Native.Nat.{ℕ, zero, suc, _<_, _+_, _-_}
+use mathlib.Core.Path.{_≡_, refl, sym, _∙_, ap}
 use mathlib.Core.Bool.{Bool, true, false, cond}
 use mathlib.Core.List.{List, [], _∷_, map}
 use mathlib.Core.Option.{some, none}
 use native.Mathlib.Omega.{arith}
+use native.Mathlib.Numerals.{add-one}
 use borrow.Author.Tests.{ltb-true, ltb-false}
-use lib.Dec.{ltb}
-use lib.ListN.{length, getD, length-map, List·getD-map}
+use lib.Dec.{ltb, leb, eqb, leb·suc-zero, leb·suc-suc, eqb·suc-zero}
+use lib.ListN.{length, getD, length-map, List·getD-map, drop}
+use lib.Seq.{drop-cons}
 use Rattle.ldc.specs.Lists.{howMany}
 use Rattle.ldc.specs.Store.{Store, isFree, size, card}
-use Rattle.ldc.specs.Lent.{stateOf, cardOf, rowOf, lentOf}
+use Rattle.ldc.specs.Lent.{lentOf}
 use Rattle.ldc.specs.Place.{nextPlace, freeFrom, placeTaken, freePlaces}
 use Rattle.ldc.proofs.Basics.Cases.{cases}
 use Rattle.ldc.proofs.Basics.ListLaws.{getD-mem, howMany-zero, map-back}
@@ -18,11 +20,12 @@ use Rattle.ldc.proofs.Lent.Parts.{card-back}
 use Rattle.ldc.proofs.Lent.Round.{few-links}
 use Rattle.ldc.proofs.Stores.Places.{next-below, none-found}
 use Rattle.ldc.proofs.Stores.Sound.{Sound}
-use Rattle.book.specs.Place.{theFound, freeRow, freeAt, freeRows}
-use Rattle.book.specs.declared.found.Found.{Found}
-use Rattle.book.specs.declared.found.Found.the-variants.{At, Nothing}
+use Rattle.ldc.specs.Layout.{stateOf, cardOf, rowOf}
+use Rattle.book.specs.Place.{theIndex, freeRow, freeAt, freeRows}
+use Rattle.book.specs.declared.index.Index.{Index}
+use Rattle.book.specs.declared.index.Index.the-variants.{At, Nothing}
 
-found-cond : (b : Bool) (p : ℕ) (f : Found) → theFound (cond b (At p) f) ≡ cond b (some p) (theFound f)
+found-cond : (b : Bool) (p : ℕ) (f : Index) → theIndex (cond b (At p) f) ≡ cond b (some p) (theIndex f)
 found-cond true p f = refl
 found-cond false p f = refl
 
@@ -41,7 +44,7 @@ module _ (s : Store) (rows : List (List ℕ)) (shown : s .cards ≡ map cardOf r
   size-shown = rw shown (length-map rows cardOf)
 
   -- The first free place over the rows is the store's.
-  pub free-shown : (n p : ℕ) → theFound (freeAt n rows p) ≡ freeFrom n s p
+  pub free-shown : (n p : ℕ) → theIndex (freeAt n rows p) ≡ freeFrom n s p
   unfolding freeAt
   free-shown zero p = refl
   free-shown (suc n) p =
@@ -97,3 +100,30 @@ none-free rows p h e =
     howMany-zero freeRow rows
     (λ row m. let spot = getD-mem rows [] m in
     rw (← spot .2, ← card-shown s rows refl (spot .0)) (each (spot .0) (spot .1)))
+
+-- ---- one turn of the loops over rows
+
+-- The first free place is this one, or the first from the next on.
+pub free-turn : (rows : List (List ℕ)) (n i p : ℕ) → i < n
+    → freeAt (n - i) rows p ≡ cond (freeRow (getD rows p [])) (At p) (freeAt (n - (i + 1)) rows (nextPlace (length rows) p))
+unfolding freeAt
+free-turn rows n i p h =
+    let e : n - i ≡ suc (n - (i + 1)) = omega arith in
+    rw e
+
+-- As many are free as behind this row, and this one if it is.
+pub count-turn : (rows : List (List ℕ)) (i : ℕ) → i < length rows
+    → freeRows (drop i rows) ≡ cond (freeRow (getD rows i [])) (suc (freeRows (drop (i + 1) rows))) (freeRows (drop (i + 1) rows))
+unfolding freeRows
+count-turn rows i h = rw (add-one i, drop-cons rows i [] h)
+
+-- One less is wanted of one less.
+pub least-turn : (k n : ℕ) → (k ≡ 0 → ⊥) → leb k (suc n) ≡ leb (k - 1) n
+least-turn k n h =
+    let e : k ≡ suc (k - 1) = omega arith in
+    ap (λ j. leb j (suc n)) e ∙ leb·suc-suc (k - 1) n
+
+-- Of none, only none can be wanted.
+pub least-none : (k : ℕ) → leb k 0 ≡ eqb k 0
+least-none zero = refl
+least-none (suc k) = rw (leb·suc-zero k, eqb·suc-zero k)

@@ -9,11 +9,12 @@ use lib.Seq.{sets, getD-append-add}
 use Rattle.table.specs.Search.{greatestKey}
 use Rattle.ldc.specs.Lists.{flat}
 use Rattle.ldc.specs.Store.{Store, mark, level, table, withMarks}
-use Rattle.ldc.specs.Lent.{Lent, listLength, markWords, storeOf, lentOf}
+use Rattle.ldc.specs.Lent.{Lent, listLength, storeOf, lentOf}
 use Rattle.ldc.specs.Steps.{marksAfter}
 use Rattle.ldc.proofs.Basics.ListLaws.{spell, getD-map}
 use Rattle.ldc.proofs.Lent.Parts.{marks-read, length-marks}
-use Rattle.book.specs.Head.{marksOf, markIn, marked}
+use Rattle.ldc.specs.Layout.{markWords, marksOf, lengthIn}
+use Rattle.book.specs.Head.{markIn, marked}
 
 -- Only levels 1 and 2 have a mark.
 pub mark-none : (words : List ℕ) (n : ℕ) → (n ≡ 1 → ⊥) → (n ≡ 2 → ⊥) → markIn words n ≡ none
@@ -39,8 +40,7 @@ module _ (m : Lent) where
   shown-mark zero = refl
   shown-mark (suc n) = refl
 
-  pub shown-length : (n : ℕ) → listLength m n ≡ getD (m .head) (6 + n) 0
-  unfolding listLength
+  pub shown-length : (n : ℕ) → listLength m n ≡ lengthIn (m .head) n
   shown-length n = refl
 
 -- ---- the words of a store
@@ -89,7 +89,7 @@ module _ (s : Store) (two : length (s .marks) ≡ 2) where
   length-word : (n : ℕ) → 6 + n ≡ suc (suc (length (flat (map markWords (s .marks))) + n))
   length-word n = omega (arith, length-marks (s .marks))
 
-  pub words-length : (n : ℕ) → n < length (s .levels) → getD (lentOf s .head) (6 + n) 0 ≡ length (level s n)
+  pub words-length : (n : ℕ) → n < length (s .levels) → lengthIn (lentOf s .head) n ≡ length (level s n)
   unfolding lentOf level
   words-length n h =
       rw (length-word n)

@@ -3,14 +3,15 @@
 use Prim.Native.Nat.{ℕ, zero, suc, _+_, _-_, _≤_, _<_}
 use mathlib.Core.Path.{_≡_, refl, sym, _∙_, ap}
 use mathlib.Core.List.{List, [], _∷_, _++_, append-assoc, append-nil}
+use mathlib.Core.Bool.{cond}
 use native.Mathlib.Omega.{arith}
-use native.Mathlib.Nat.{sub-zero}
+use native.Mathlib.Nat.{sub-zero, suc-add}
 use native.Mathlib.Numerals.{add-one}
 use borrow.Author.Tests.{eqb-true, eqb-false, ne-eqb}
 use lib.Dec.{eqb}
-use lib.ListN.{length, getD, set, take, drop, length-append, length-drop, List·getD-append}
-use lib.Seq.{sets, sets-eq, length-take-le, take-append-le, take-append-seam, drop-append-add, set-append-seam}
-use Rattle.number.proofs.Sets.{sets-append, sets-comm}
+use lib.ListN.{length, getD, set, take, drop, length-append, length-drop, List·getD-append, drop-of-length-le}
+use lib.Seq.{sets, sets-eq, length-take-le, take-append-le, take-append-seam, drop-append-add, set-append-seam, drop-cons, drop-set-lt, take-set-lt, getD-take}
+use Rattle.coding.proofs.Sets.{sets-append, sets-comm, getD-sets-below}
 use Rattle.table.specs.Table.{zeros}
 use Rattle.table.proofs.Tests.{cases}
 use Rattle.table.proofs.Zeros.{length-zeros, zeros-add}
@@ -18,7 +19,7 @@ use Rattle.ldc.specs.Lists.{howMany}
 use Rattle.ldc.specs.Steps.{replaced}
 use Rattle.ldc.proofs.Lent.Parts.{padded, length-padded}
 use Rattle.book.specs.Level.{indexFrom, indexOf, spliced}
-use Rattle.book.specs.declared.found.Found.the-variants.{At, Nothing}
+use Rattle.book.specs.declared.index.Index.the-variants.{At, Nothing}
 
 -- ---- replacing
 
@@ -147,3 +148,53 @@ pub replaced-padded : (size p i : ℕ) (items ps : List ℕ) → indexOf p ps �
 replaced-padded size p i items ps h hs hn =
     let s = index-stands p i ps h in
     splice-padded size i items ps (s .within) hs hn ∙ ap (padded size) (sym (s .other items))
+
+-- ---- one turn of the loops over a list's items
+
+-- The first of n items that is p is this one, or stands behind it.
+pub index-turn : (xs : List ℕ) (n p i : ℕ) → i < n → n ≤ length xs
+    → indexFrom p i (drop i (take n xs)) ≡ cond (eqb (getD xs i 0) p) (At i) (indexFrom p (i + 1) (drop (i + 1) (take n xs)))
+unfolding indexFrom
+index-turn xs n p i h hn =
+    let long : length (take n xs) ≡ n = length-take-le n xs hn in
+    rw (add-one i, drop-cons (take n xs) i 0 (omega arith), getD-take n xs i 0 h)
+
+-- What is left to close up is to move the next item here, and to close up from it on.
+pub remove-turn : (xs : List ℕ) (n j : ℕ) → j + 1 < n → n ≤ length xs
+    → spliced j n [] xs ≡ spliced (j + 1) n [] (set xs j (getD xs (j + 1) 0))
+unfolding spliced
+remove-turn xs n j h hn =
+    let long : length (take n xs) ≡ n = length-take-le n xs hn in
+    let x : ℕ = getD xs (suc j) 0 in
+    rw (
+      add-one j,
+      take-set-lt n xs j x (omega arith),
+      drop-set-lt (suc (suc j)) (take n xs) j x (omega arith),
+      drop-cons (take n xs) (suc j) 0 (omega arith),
+      getD-take n xs (suc j) 0 (omega arith),
+    )
+
+-- At the last item a zero is left to write.
+pub remove-last : (xs : List ℕ) (n j : ℕ) → j + 1 ≡ n → n ≤ length xs → set xs j 0 ≡ spliced j n [] xs
+unfolding spliced zeros
+remove-last xs n j h hn =
+    let long : length (take n xs) ≡ n = length-take-le n xs hn in
+    let none : drop (suc j) (take n xs) ≡ [] = drop-of-length-le (take n xs) {i = suc j} (omega arith) in
+    rw none
+
+-- Items moved to the right from the last on: one more.
+pub shift-turn : (xs : List ℕ) (n by i : ℕ) → i < n → n ≤ length xs
+    → let ys = sets xs (suc i + by) (drop (suc i) (take n xs)) in
+    set ys (i + by) (getD ys i 0) ≡ sets xs (i + by) (drop i (take n xs))
+shift-turn xs n by i h hn =
+    let x : ℕ = getD xs i 0 in
+    let rest : List ℕ = drop (suc i) (take n xs) in
+    let ys : List ℕ = sets xs (suc i + by) rest in
+    let long : length (take n xs) ≡ n = length-take-le n xs hn in
+    let kept : getD ys i 0 ≡ x = getD-sets-below xs (suc i + by) rest i 0 (omega arith) in
+    let whole : drop i (take n xs) ≡ x ∷ rest =
+    drop-cons (take n xs) i 0 (omega arith) ∙ ap (λ y. y ∷ rest) (getD-take n xs i 0 h) in
+    ap (set ys (i + by)) kept
+    ∙ sym (sets-comm xs (i + by) (x ∷ []) (suc i + by) rest (omega arith))
+    ∙ ap (λ k. sets (set xs (i + by) x) k rest) (suc-add i by)
+    ∙ ap (sets xs (i + by)) (sym whole)

@@ -1,34 +1,38 @@
 -- What making a store leaves is what the definition gives: good sizes cut the area into whole places, and a new store's book is zero
 -- but for the threshold and the head of the empty memory table.
-use Prim.Native.Nat.{ℕ, _+_, _*_, _/_, _%_}
+use Prim.Native.Nat.{ℕ, zero, suc, _+_, _*_, _/_, _%_, _<_}
 use mathlib.Core.Path.{_≡_, refl, sym, _∙_, ap}
 use mathlib.Core.Bool.{true, false, _&&_}
 use mathlib.Core.List.{List, [], _∷_, _++_, map}
 use native.Mathlib.Omega.{arith}
 use native.Mathlib.Nat.{sub-zero}
+use native.Mathlib.Numerals.{add-one}
 use lib.Dec.{leb, eqb}
-use lib.ListN.{length}
+use lib.ListN.{length, replicate, set, drop}
+use lib.Seq.{sets, drop-cons, drop-set-lt}
 use Rattle.table.specs.Limits.{placeSize}
 use Rattle.table.specs.Table.{zeros, tableBytes}
 use Rattle.table.proofs.Zeros.{zeros-add}
 use Rattle.ldc.specs.Lists.{flat}
 use Rattle.ldc.specs.Store.{free, newStore}
 use Rattle.ldc.specs.Rules.{thresholdGood}
-use Rattle.ldc.specs.Lent.{Lent, placesIn, sizesGood, chop, rowOf, lentOf}
+use Rattle.ldc.specs.Lent.{Lent, placesIn, sizesGood, chop, lentOf}
 use Rattle.ldc.specs.Run.{make}
 use Rattle.ldc.proofs.Basics.ListLaws.{length-parts, flat-parts}
 use Rattle.ldc.proofs.Lent.Parts.{padded}
 use Rattle.ldc.proofs.Lent.Round.{chop-parts}
 use Rattle.ldc.proofs.Lent.Shows.{sizes}
-use Rattle.book.specs.Made.{lent, made, allFree}
+use Rattle.ldc.specs.Layout.{rowOf, mostPlaces, fewestPlaces, levelCount}
+use Rattle.book.specs.Made.{made, allFree}
+use Rattle.book.specs.Pieces.{lent}
 
 -- ---- sizes
 
 -- Sizes are good by their numbers alone.
 pub sizes-by : (m : Lent) (area cards lists : ℕ) → length (m .area) ≡ area → length (m .cards) ≡ cards → length (m .lists) ≡ lists
     → eqb (area % placeSize) 0
-    && (leb 16 (area / placeSize)
-    && (leb (area / placeSize) 4096 && (eqb cards (area / placeSize) && eqb lists (4 * (area / placeSize)))))
+    && (leb fewestPlaces (area / placeSize)
+    && (leb (area / placeSize) mostPlaces && (eqb cards (area / placeSize) && eqb lists (levelCount * (area / placeSize)))))
     ≡ sizesGood m
 unfolding sizesGood placesIn
 sizes-by m area cards lists a b d = rw (a, b, d)
@@ -87,3 +91,16 @@ pub lent-same : (area : List ℕ) {cards rows : List (List ℕ)} {lists items he
     → cards ≡ rows → lists ≡ items → head ≡ words → memory ≡ bytes
     → lent area cards lists head memory ≡ lent area rows items words bytes
 lent-same area c l h m = λ i. lent area (c i) (l i) (h i) (m i)
+
+-- A blank array.
+pub blank : (n : ℕ) → replicate n 0 ≡ zeros n
+unfolding zeros
+blank zero = refl
+blank (suc n) = rw (blank n)
+
+-- What is left to be made free is this row and those behind it.
+pub free-all-turn : (rows : List (List ℕ)) (i : ℕ) → i < length rows
+    → sets rows i (allFree (drop i rows)) ≡ sets (set rows i (rowOf free)) (i + 1) (allFree (drop (i + 1) (set rows i (rowOf free))))
+unfolding allFree
+free-all-turn rows i h =
+    rw (add-one i, drop-set-lt (suc i) rows i (rowOf free) (omega arith), drop-cons rows i [] h)

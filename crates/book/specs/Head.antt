@@ -4,7 +4,7 @@ use mathlib.Core.List.{List, [], _∷_}
 use mathlib.Core.Option.{Option, some, none}
 use lib.ListN.{getD}
 use lib.Seq.{sets}
-use Rattle.ldc.specs.Lent.{markOf}
+use Rattle.ldc.specs.Layout.{marksOf}
 use Rattle.book.specs.declared.head.Head.{Head}
 use Rattle.book.specs.declared.head.Mark.{Mark}
 use Rattle.book.specs.declared.head.Mark.the-variants.{At, Nothing}
@@ -19,10 +19,7 @@ abbrev pub theMark : Mark → Option ℕ
 theMark (At k) = some (k .value)
 theMark Nothing = none
 
--- The two marks that the words say, and that of a level. Level 0 has none.
-abbrev pub marksOf : List ℕ → List (Option ℕ)
-marksOf words = markOf (getD words 2 0) (getD words 3 0) ∷ markOf (getD words 4 0) (getD words 5 0) ∷ []
-
+-- The mark of a level that the words say. Level 0 has none.
 unfoldable pub markIn : List ℕ → (level : ℕ) → Option ℕ
 markIn words zero = none
 markIn words (suc n) = getD (marksOf words) n none

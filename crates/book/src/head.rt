@@ -1,10 +1,36 @@
-// The head of the book: ten words at the edge, a value inside. Threshold, cursor, the marks of levels 1 and 2, four lengths.
+// The head of the book: ten words at the edge, a value inside.
 ghost use mathlib.Core.Path.{_≡_};
 ghost use Prim.Native.Nat.{_+_, _<_};
 ghost use lib.ListN.{getD, set};
-ghost use Rattle.ldc.specs.Lent.{markOf};
+ghost use Rattle.ldc.specs.Layout.{markOf, levelCount, lengthIn, lengthWord};
 ghost use Rattle.book.specs.Head.{headWords, theMark, markIn, marked};
-use key::Key;
+use coding::key::Key;
+
+// The words of the head.
+pub const HEAD_WORDS: usize = 10;
+
+pub type HeadWords = [u64; HEAD_WORDS];
+
+// Where the words stand: threshold, cursor, flag and key of the marks of levels 1 and 2, and the lengths of the four lists.
+pub const THRESHOLD: usize = 0;
+
+pub const CURSOR: usize = 1;
+
+pub const FLAG1: usize = 2;
+
+pub const KEY1: usize = 3;
+
+pub const FLAG2: usize = 4;
+
+pub const KEY2: usize = 5;
+
+pub const LENGTHS: usize = 6;
+
+const LENGTH1: usize = LENGTHS + 1;
+
+const LENGTH2: usize = LENGTHS + 2;
+
+const LENGTH3: usize = LENGTHS + 3;
 
 // A mark's flag is 1 if there is a key, 0 if none; what flags are lent is kept as it is.
 pub struct Head {
@@ -38,26 +64,26 @@ fn mark_with(flag: u64, key: Key) -> Mark
 }
 
 // The head that ten words say.
-pub fn read(words: [u64; 10]) -> Head
+pub fn read(words: HeadWords) -> Head
     ensures { λ r. ⌜ headWords r ≡ words ⌝ }
 {
     Head {
-        threshold: words[0],
-        cursor: words[1] as usize,
-        flag1: words[2],
-        key1: Key { value: words[3] },
-        flag2: words[4],
-        key2: Key { value: words[5] },
-        length0: words[6] as usize,
-        length1: words[7] as usize,
-        length2: words[8] as usize,
-        length3: words[9] as usize,
+        threshold: words[THRESHOLD],
+        cursor: words[CURSOR] as usize,
+        flag1: words[FLAG1],
+        key1: Key { value: words[KEY1] },
+        flag2: words[FLAG2],
+        key2: Key { value: words[KEY2] },
+        length0: words[LENGTHS] as usize,
+        length1: words[LENGTH1] as usize,
+        length2: words[LENGTH2] as usize,
+        length3: words[LENGTH3] as usize,
     }
 }
 
 impl Head {
     // Writes the head into ten words.
-    pub fn write(self, words: &mut [u64; 10])
+    pub fn write(self, words: &mut HeadWords)
         ensures { λ _. ⌜ now (words .exit) ≡ headWords self ⌝ }
     {
         *words = [
@@ -76,8 +102,8 @@ impl Head {
 
     // How many items a level's list has.
     pub fn length_of(self, level: usize) -> usize
-        requires { ⌜ level < 4 ⌝ }
-        ensures { λ r. ⌜ r ≡ getD (headWords self) (6 + level) 0 ⌝ }
+        requires { ⌜ level < levelCount ⌝ }
+        ensures { λ r. ⌜ r ≡ lengthIn (headWords self) level ⌝ }
     {
         match level {
             0 => self.length0,
@@ -89,8 +115,8 @@ impl Head {
 
     // The same with another length of a level's list.
     pub fn with_length(mut self, level: usize, n: usize) -> Head
-        requires { ⌜ level < 4 ⌝ }
-        ensures { λ r. ⌜ headWords r ≡ set (headWords self) (6 + level) n ⌝ }
+        requires { ⌜ level < levelCount ⌝ }
+        ensures { λ r. ⌜ headWords r ≡ set (headWords self) (lengthWord level) n ⌝ }
     {
         match level {
             0 => {

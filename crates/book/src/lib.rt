@@ -1,7 +1,10 @@
-// The book in lent memory: its head, and the laws of rows of words for cards, of level lists in parts of the lent lists and of free places.
+// The book in lent memory: the head, the rows of the cards, the level lists and the places, by the layout of docs/DECISIONS.md, 1.
 //
-// Nothing here knows what a table holds. The layout is that of docs/DECISIONS.md, 1.
-// The crates `row`, `list`, `place` and `make` read and write rows, lists, places that are free, and a new store.
-pub mod found;
+// Everything here knows where words stand; nothing knows what a table holds.
 pub mod head;
+pub mod index;
+pub mod limits;
+pub mod list;
+pub mod place;
 pub mod row;
+pub mod sizes;

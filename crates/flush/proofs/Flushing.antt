@@ -7,30 +7,31 @@ use mathlib.Core.List.{List, [], _∷_, _++_}
 use native.Mathlib.Omega.{arith}
 use borrow.Author.Tests.{leb-true, leb-false, eq-eqb, ne-eqb}
 use lib.Dec.{leb}
-use lib.ListN.{length, getD, set, length-append}
+use lib.ListN.{length, set, length-append}
 use lib.Seq.{sets, getD-set-same}
 use Rattle.table.specs.Limits.{placeSize}
 use Rattle.table.specs.Table.{countOf, tableBytes}
 use Rattle.table.proofs.Entries.{length-entries}
 use Rattle.ldc.specs.Lists.{isEmpty}
+use Rattle.ldc.specs.Layout.{mostPlaces, lengthWord, lengthIn, itemsIn}
 use Rattle.ldc.specs.Store.{Store, size, level, withLevel}
 use Rattle.ldc.specs.Lent.{Lent, storeOf, lentOf}
 use Rattle.ldc.specs.Place.{placeTaken, written, freePlaces, flushed, serveFlush}
 use Rattle.ldc.proofs.Lent.Round.{level-fits}
-use Rattle.ldc.proofs.Lent.Shape.{Shape}
 use Rattle.ldc.proofs.Stores.Places.{taken-below}
 use Rattle.ldc.proofs.Stores.Sound.{Sound}
 use Rattle.ldc.proofs.Stores.TableLaws.{tableBytes-long}
 use Rattle.ldc.proofs.Stores.Written.{size-written}
 use Rattle.ldc.proofs.Steps.Flush.{sound-flush}
-use Rattle.book.specs.Made.{lent}
+use Rattle.ldc.specs.Facts.{Shape}
 use Rattle.book.specs.Place.{freeRows}
+use Rattle.book.specs.Pieces.{lent}
 use Rattle.read.specs.Shown.{Kept}
-use Rattle.writer.specs.Level.{itemsAt, Listing, withItems}
-use Rattle.writer.specs.Shown.{Fits, Shows}
-use Rattle.writer.specs.Take.{Takes}
-use Rattle.writer.proofs.Fitting.{free-shown, length-cards, listing-at, items-at, length-at, lists-at, head-at, fits-written, lists-written, shows-written}
-use Rattle.writer.proofs.Keeping.{sound-kept, fits-kept, lent-kept, shows-kept, lists-kept, memory-kept}
+use Rattle.book_edit.specs.Level.{Listing, withItems}
+use Rattle.book_edit.specs.Shown.{Fits, Shows}
+use Rattle.book_edit.specs.Take.{Takes}
+use Rattle.book_edit.proofs.Fitting.{free-shown, length-cards, listing-at, items-at, length-at, lists-at, head-at, fits-written, lists-written, shows-written}
+use Rattle.book_edit.proofs.Keeping.{sound-kept, fits-kept, lent-kept, shows-kept, lists-kept, memory-kept}
 
 empty-zero : {A : Type 0} (xs : List A) → length xs ≡ 0 → isEmpty xs ≡ true
 empty-zero [] h = refl
@@ -123,10 +124,10 @@ module _ (m : Lent) (sh : Shape m) (k : Kept m) where
       space : length (level (storeOf m) 0) < size (storeOf m)
       space = flush-room (storeOf m) (sound-kept m sh k) (omega (arith, many, some)) enough
 
-      pub flush-place : p < 4096
+      pub flush-place : p < mostPlaces
       flush-place = omega (arith, shown .0, taken-below (storeOf m) (fits-kept m sh k .turns) enough, fits-kept m sh k .most)
 
-      pub flush-listing : Listing 0 (length cards′) (m .lists) head′ × (getD head′ 6 0 < length cards′)
+      pub flush-listing : Listing 0 (length cards′) (m .lists) head′ × (lengthIn head′ 0 < length cards′)
       flush-listing =
           let w′ : Store = written (storeOf m .memory) (storeOf m) in (
             listing-at w′ after 0 (omega arith) (length cards′) (m .lists) head′ counted listed (shown .1 .head),
@@ -141,10 +142,10 @@ module _ (m : Lent) (sh : Shape m) (k : Kept m) where
           )
 
       module _ (lists′ head″ memory′ : List ℕ)
-          (el : lists′ ≡ withItems 0 (length cards′) (itemsAt 0 (length cards′) (m .lists) head′ ++ p ∷ []) (m .lists))
-          (eh : head″ ≡ set head′ 6 (length (itemsAt 0 (length cards′) (m .lists) head′ ++ p ∷ [])))
+          (el : lists′ ≡ withItems 0 (length cards′) (itemsIn (length cards′) (m .lists) head′ 0 ++ p ∷ []) (m .lists))
+          (eh : head″ ≡ set head′ (lengthWord 0) (length (itemsIn (length cards′) (m .lists) head′ 0 ++ p ∷ [])))
           (em : memory′ ≡ tableBytes []) where
-        items : itemsAt 0 (length cards′) (m .lists) head′ ++ p ∷ [] ≡ level (storeOf m) 0 ++ (placeTaken (storeOf m) ∷ [])
+        items : itemsIn (length cards′) (m .lists) head′ 0 ++ p ∷ [] ≡ level (storeOf m) 0 ++ (placeTaken (storeOf m) ∷ [])
         items =
             let w′ : Store = written (storeOf m .memory) (storeOf m) in
             ap (λ (xs : List ℕ). xs ++ p ∷ []) (items-at w′ after 0 (omega arith) (length cards′) (m .lists) head′ counted listed (shown .1 .head) ∙ level-written (storeOf m))
@@ -159,7 +160,7 @@ module _ (m : Lent) (sh : Shape m) (k : Kept m) where
             omega (arith, length-append (level (storeOf m) 0) (placeTaken (storeOf m) ∷ []), space, size-written (storeOf m .memory) (storeOf m)) in
             let lists-now = el ∙ ap (λ (xs : List ℕ). withItems 0 (length cards′) xs (m .lists)) items
             ∙ lists-at w′ after 0 (omega arith) (length cards′) (m .lists) head′ counted listed (shown .1 .head) ps few in
-            let head-now = eh ∙ ap (λ (xs : List ℕ). set head′ 6 (length xs)) items
+            let head-now = eh ∙ ap (λ (xs : List ℕ). set head′ (lengthWord 0) (length xs)) items
             ∙ head-at w′ after 0 (omega arith) (length cards′) (m .lists) head′ counted listed (shown .1 .head) ps in
             rw (filled, ne-eqb (freePlaces (storeOf m)) 0 (λ e. omega (arith, enough)))
             (refl, flushed-lent (storeOf m) area′ cards′ head′ lists′ head″ memory′ (shown .1) lists-now head-now em)

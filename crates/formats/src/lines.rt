@@ -3,15 +3,26 @@ ghost use mathlib.Core.Path.{_≡_};
 ghost use Prim.Native.Nat.{_+_, _≤_};
 ghost use lib.ListN.{length};
 ghost use Rattle.table.specs.Table.{tableBytes};
-ghost use Rattle.examples.specs.Examples.{theTwo};
-use key::Key;
+ghost use Rattle.formats.specs.Examples.{theTwo};
+use super::examples;
+use coding::hex;
+use coding::key::Key;
+use coding::number;
+use table::limits::PLACE_SIZE;
+use table::search;
 use table::search::Found;
+use table_builder::place;
 
-// A line of up to 16 bytes.
+// A line shows up to so many bytes, three characters each.
+const ROW: usize = 16;
+
+const TEXT: usize = 3 * ROW;
+
+// A line of up to `ROW` bytes.
 fn bytes_line(words: &[u8], bytes: &[u8])
     requires { ⌜ length (now bytes) ≤ 16 ⌝ }
 {
-    let mut text = [0u8; 48];
+    let mut text = [0u8; TEXT];
     hex::put_bytes(&mut text, bytes);
     let end = 3 * bytes.len();
     io::write_all(1, words);
@@ -19,11 +30,11 @@ fn bytes_line(words: &[u8], bytes: &[u8])
     io::write_all(1, b"\n");
 }
 
-// A line of the 16 bytes of a place from `at` on.
+// A line of the `ROW` bytes of a place from `at` on.
 fn row_line(words: &[u8], place: &[u8], at: usize)
     requires { ⌜ at + 16 ≤ length (now place) ⌝ }
 {
-    bytes_line(words, &place[at..at + 16]);
+    bytes_line(words, &place[at..at + ROW]);
 }
 
 // A line that ends in a number.
@@ -52,7 +63,7 @@ pub fn entries() {
 
 // The table of the two, and what is found in it.
 pub fn table() {
-    let mut place = [0u8; 1024];
+    let mut place = [0u8; PLACE_SIZE];
     examples::two(&mut place);
     rows(&place);
     finds(&place);
@@ -96,7 +107,7 @@ fn find_line(place: &[u8], key: u64)
 
 // The memory table with no entry.
 pub fn memory() {
-    let mut place = [0u8; 1024];
-    build::clear(&mut place);
+    let mut place = [0u8; PLACE_SIZE];
+    place::clear(&mut place);
     row_line(b"empty memory table, 000:  ", &place, 0);
 }

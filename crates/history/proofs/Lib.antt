@@ -1,3 +1,3 @@
 -- The laws of `history`.
---   One      one run, its buffer back in its place
+--   One   one run, its buffer back in its place
 pub mod One

@@ -5,13 +5,13 @@ use mathlib.Core.List.{List, _++_}
 use native.Mathlib.Omega.{arith}
 use lib.ListN.{length, getD, take, drop, set}
 use lib.Seq.{sets}
-use Rattle.number.proofs.Sets.{sets-back}
+use Rattle.coding.proofs.Sets.{sets-back}
 use Rattle.ldc.specs.Lent.{Lent}
 use Rattle.ldc.specs.Run.{Outcome, run}
-use Rattle.serving.specs.Ran.{ran}
-use Rattle.pieces.specs.Pieces.{pieces, startOf, piece, callAt}
-use Rattle.pieces.specs.Performs.{outcomeAt, RanOne}
-use Rattle.pieces.proofs.Starts.{Ends}
+use Rattle.serve_list.specs.Ran.{ran}
+use Rattle.history_lists.specs.Pieces.{pieces, startOf, piece, callAt}
+use Rattle.history_lists.specs.Performs.{outcomeAt, RanOne}
+use Rattle.history_lists.proofs.Starts.{Ends}
 
 module _ (m : Lent) (input ends answers stops served : List ℕ) (k from first : ℕ) (ef : from ≡ startOf ends k) (es : first ≡ startOf stops k) where
   abbrev list : List ℕ

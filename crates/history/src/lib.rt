@@ -3,9 +3,13 @@
 ghost use mathlib.Core.Path.{_≡_};
 ghost use mathlib.Core.Bool.{true};
 ghost use lib.ListN.{length};
-ghost use Rattle.book.specs.Made.{lent};
-ghost use Rattle.pieces.specs.Pieces.{pieces, ready, Runs};
-ghost use Rattle.pieces.specs.Performs.{RanOne, Ran, Performs};
+ghost use Rattle.book.specs.Pieces.{after, before};
+ghost use Rattle.history_lists.specs.Pieces.{piecesBefore, piecesAfter, ready, Runs};
+ghost use Rattle.history_lists.specs.Performs.{RanOne, Ran, Performs};
+use book::head::HeadWords;
+use book::row::Row;
+use table::limits::PlaceBytes;
+use wire::results;
 
 // What a history returns: the number of making the store, and how many runs were performed.
 pub struct Done {
@@ -16,10 +20,10 @@ pub struct Done {
 // Performs run k, and notes how many requests it served.
 fn run_one(
     area: &mut [u8],
-    cards: &mut [[u64; 26]],
+    cards: &mut [Row],
     lists: &mut [u16],
-    head: &mut [u64; 10],
-    memory: &mut [u8; 1024],
+    head: &mut HeadWords,
+    memory: &mut PlaceBytes,
     input: &[u8],
     ends: &[usize],
     answers: &mut [u8],
@@ -29,19 +33,15 @@ fn run_one(
 )
     requires { ⌜ ready (length (now input)) (now ends) (length (now answers)) (now stops) (length (now served)) k ≡ true ⌝ }
     ensures { λ _. ⌜
-        RanOne
-        (lent (now (area .entry)) (now (cards .entry)) (now (lists .entry)) (now (head .entry)) (now (memory .entry)))
-        (pieces (now (input .entry)) (now (ends .entry)) (now (answers .entry)) (now (stops .entry)) (now (served .entry)))
-        k
-        (lent (now (area .exit)) (now (cards .exit)) (now (lists .exit)) (now (head .exit)) (now (memory .exit)))
-        (pieces (now (input .entry)) (now (ends .entry)) (now (answers .exit)) (now (stops .entry)) (now (served .exit)))
+        RanOne (before area cards lists head memory) (piecesBefore input ends answers stops served) k
+        (after area cards lists head memory) (piecesAfter input ends answers stops served)
         ⌝ }
 {
-    let from = pieces::start(ends, k);
+    let from = history_lists::start(ends, k);
     let end = ends[k];
-    let first = pieces::start(stops, k);
+    let first = history_lists::start(stops, k);
     let stop = stops[k];
-    let done = run::run(
+    let done = store_run::run(
         area,
         cards,
         lists,
@@ -56,10 +56,10 @@ fn run_one(
 // Performs the first n runs, one after the other.
 fn run_all(
     area: &mut [u8],
-    cards: &mut [[u64; 26]],
+    cards: &mut [Row],
     lists: &mut [u16],
-    head: &mut [u64; 10],
-    memory: &mut [u8; 1024],
+    head: &mut HeadWords,
+    memory: &mut PlaceBytes,
     input: &[u8],
     ends: &[usize],
     answers: &mut [u8],
@@ -69,12 +69,8 @@ fn run_all(
 )
     requires { ⌜ Runs (length (now input)) (now ends) (length (now answers)) (now stops) (length (now served)) n ⌝ }
     ensures { λ _. ⌜
-        Ran
-        (lent (now (area .entry)) (now (cards .entry)) (now (lists .entry)) (now (head .entry)) (now (memory .entry)))
-        (pieces (now (input .entry)) (now (ends .entry)) (now (answers .entry)) (now (stops .entry)) (now (served .entry)))
-        n
-        (lent (now (area .exit)) (now (cards .exit)) (now (lists .exit)) (now (head .exit)) (now (memory .exit)))
-        (pieces (now (input .entry)) (now (ends .entry)) (now (answers .exit)) (now (stops .entry)) (now (served .exit)))
+        Ran (before area cards lists head memory) (piecesBefore input ends answers stops served) n
+        (after area cards lists head memory) (piecesAfter input ends answers stops served)
         ⌝ }
 {
     let mut k = 0;
@@ -102,10 +98,10 @@ fn run_all(
 // history ends. Demand 3 holds of what memory and answers then hold.
 pub fn perform(
     area: &mut [u8],
-    cards: &mut [[u64; 26]],
+    cards: &mut [Row],
     lists: &mut [u16],
-    head: &mut [u64; 10],
-    memory: &mut [u8; 1024],
+    head: &mut HeadWords,
+    memory: &mut PlaceBytes,
     threshold: u64,
     input: &[u8],
     ends: &[usize],
@@ -114,21 +110,16 @@ pub fn perform(
     served: &mut [usize],
 ) -> Done
     ensures { λ r. ⌜
-        Performs
-        (lent (now (area .entry)) (now (cards .entry)) (now (lists .entry)) (now (head .entry)) (now (memory .entry)))
-        threshold
-        (pieces (now (input .entry)) (now (ends .entry)) (now (answers .entry)) (now (stops .entry)) (now (served .entry)))
-        (r .number)
-        (r .runs)
-        (lent (now (area .exit)) (now (cards .exit)) (now (lists .exit)) (now (head .exit)) (now (memory .exit)))
-        (pieces (now (input .entry)) (now (ends .entry)) (now (answers .exit)) (now (stops .entry)) (now (served .exit)))
+        Performs (before area cards lists head memory) threshold (piecesBefore input ends answers stops served)
+        (r .number) (r .runs)
+        (after area cards lists head memory) (piecesAfter input ends answers stops served)
         ⌝ }
 {
-    let number = make::make(area, cards, lists, head, memory, threshold);
-    if number != 0 {
+    let number = store_make::make(area, cards, lists, head, memory, threshold);
+    if number != results::ACCEPTED {
         return Done { number, runs: 0 };
     }
-    let n = pieces::runs(input.len(), ends, answers.len(), stops, served.len());
+    let n = history_lists::runs(input.len(), ends, answers.len(), stops, served.len());
     run_all(
         area,
         cards,

@@ -5,7 +5,7 @@
 --   SlicesKeep   every request keeps list and store in step
 --   Demand3      the theorem
 --   OtherKeys    no request changes the answer under another key; a run leaves a sound store sound
---   Examples     P1 to P10
+--   Examples     P1 to P10, and the cases of the slips
 pub mod Mirror
 pub mod MirrorKeeps
 pub mod Slices

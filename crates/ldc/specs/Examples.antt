@@ -1,22 +1,24 @@
--- The checked examples P1 to P10 of document 01, as one table: what the definition computes beside what document 01 says; and a second table with a
--- case for each slip. `proofs/Demand/Examples` shows that each row agrees.
+-- The checked examples P1 to P10 of document 01, as one table: what the definition computes beside what document 01 says; and a
+-- second table with a case for each slip. `proofs/Demand/Examples` shows that each row agrees. What is expected stands in plain
+-- numbers, as in document 01.
 use Prim.Native.Nat.{ℕ, _-_}
 use mathlib.Core.List.{List, [], _∷_, _++_, map}
-use mathlib.Core.Bool.{Bool, true, false, _&&_}
+use mathlib.Core.Bool.{Bool, true, _&&_}
 use mathlib.Core.Option.{some, none, Option·getD}
-use lib.Dec.{eqb}
 use lib.ListN.{length, getD, replicate}
-use Rattle.number.specs.Number.{bytesOf}
+use Rattle.coding.specs.Number.{bytesOf}
+use Rattle.table.specs.Limits.{placeSize}
 use Rattle.table.specs.Entry.{Entry}
 use Rattle.table.specs.Table.{tableBytes, zeros}
 use Rattle.ldc.specs.Lists.{flat}
 use Rattle.ldc.specs.Store.{Link, Card, Store, free, live, frozen, newStore, card, level, table}
-use Rattle.ldc.specs.Lent.{stateWord}
-use Rattle.ldc.specs.Request.{Request, Served, replyBytes}
+use Rattle.ldc.specs.Request.{putKind, deleteKind, lookUpKind, flushKind, tidyKind, memoryFull, keySize}
+use Rattle.ldc.specs.Request.{Request, Served, replyBytes, done}
 use Rattle.ldc.specs.Tidy.{Slice, fullest, slicesOf, greatest}
-use Rattle.ldc.specs.Steps.{doLink}
+use Rattle.ldc.specs.Steps.{doLink, sameBytes}
 use Rattle.ldc.specs.Serve.{serve}
 use Rattle.ldc.specs.History.{fed}
+use Rattle.ldc.specs.Layout.{fewestPlaces, stateWord}
 
 -- A row: what is computed, and what it should be.
 pub record Example : Type 0 where
@@ -25,34 +27,40 @@ pub record Example : Type 0 where
 
 -- ---- requests, and serving several of them
 
-abbrev put : ℕ → Request
-put k = record { kind = 1; body = bytesOf 8 k ++ (65 ∷ []) }
+-- A put of one byte.
+abbrev askPutByte : ℕ → ℕ → Request
+askPutByte k v = record { kind = putKind; body = bytesOf keySize k ++ (v ∷ []) }
 
-abbrev delete : ℕ → Request
-delete k = record { kind = 2; body = bytesOf 8 k }
+-- A put of "A".
+abbrev askPut : ℕ → Request
+askPut k = askPutByte k 65
 
-abbrev lookUp : ℕ → Request
-lookUp k = record { kind = 3; body = bytesOf 8 k }
+abbrev askDelete : ℕ → Request
+askDelete k = record { kind = deleteKind; body = bytesOf keySize k }
 
-abbrev flush : Request
-flush = record { kind = 5; body = [] }
+abbrev askLookUp : ℕ → Request
+askLookUp k = record { kind = lookUpKind; body = bytesOf keySize k }
 
-abbrev tidy : Request
-tidy = record { kind = 6; body = [] }
+abbrev askFlush : Request
+askFlush = record { kind = flushKind; body = [] }
 
--- The store and the last reply, result and body, after some requests.
-abbrev after : Served → List Request → Served
-after v [] = v
-after v (r ∷ rs) = after (serve (v .store) r) rs
+abbrev askTidy : Request
+askTidy = record { kind = tidyKind; body = [] }
+
+-- The store and the last reply, result and body, when some requests were served.
+abbrev lastServed : Served → List Request → Served
+lastServed v [] = v
+lastServed v (r ∷ rs) = lastServed (serve (v .store) r) rs
 
 abbrev from : Store → List Request → Served
-from s rs = after (record { store = s; result = 0; body = [] }) rs
+from s rs = lastServed (done s []) rs
 
 abbrev reply : Served → List ℕ
 reply v = v .result ∷ v .body
 
+-- A new store of 16 places, their bytes zero.
 abbrev new : ℕ → Store
-new t = newStore t (replicate 16 (zeros 1024))
+new t = newStore t (replicate fewestPlaces (zeros placeSize))
 
 -- ---- a planted store: level 1 has the tables 10..20, 30..40 and 50..60 in places 1, 2, 3, and place 0 is live on level 0 with these keys
 
@@ -65,9 +73,9 @@ planted t ks = record {
   cursor = 4;
   marks = none ∷ none ∷ [];
   levels = (0 ∷ []) ∷ (1 ∷ 2 ∷ 3 ∷ []) ∷ [] ∷ [] ∷ [];
-  cards = replicate 4 (live []) ++ replicate 12 free;
+  cards = replicate 4 (live []) ++ replicate (fewestPlaces - 4) free;
   places = map (λ es. tableBytes es) (tableOf ks ∷ tableOf (10 ∷ 20 ∷ []) ∷ tableOf (30 ∷ 40 ∷ []) ∷ tableOf (50 ∷ 60 ∷ []) ∷ [])
-      ++ replicate 12 (zeros 1024);
+      ++ replicate (fewestPlaces - 4) (zeros placeSize);
   memory = [];
 }
 
@@ -79,33 +87,36 @@ abbrev linkedP7 : (threshold : ℕ) → Store
 linkedP7 t = let s : Store = planted t (5 ∷ 25 ∷ 70 ∷ []) in doLink 0 0 (slicesOf s 0 0) s
 
 abbrev tidied : ℕ → List ℕ
-tidied n = let v : Served = from (linkedP7 1) (replicate n tidy) in reply v ++ (stateWord (card (v .store) 0) ∷ [])
+tidied n = let v : Served = from (linkedP7 1) (replicate n askTidy) in reply v ++ (stateWord (card (v .store) 0) ∷ [])
 
 -- Levels 0 and 1 holding so many live tables.
-abbrev holding : ℕ → ℕ → ℕ → ℕ
-holding a b n = getD (a ∷ b ∷ []) n 0
+abbrev tablesOn : ℕ → ℕ → ℕ → ℕ
+tablesOn a b n = getD (a ∷ b ∷ []) n 0
 
 abbrev sixteen : List Request
-sixteen = map put (0 ∷ 1 ∷ 2 ∷ 3 ∷ 4 ∷ 5 ∷ 6 ∷ 7 ∷ 8 ∷ 9 ∷ 10 ∷ 11 ∷ 12 ∷ 13 ∷ 14 ∷ 15 ∷ [])
+sixteen = map askPut (0 ∷ 1 ∷ 2 ∷ 3 ∷ 4 ∷ 5 ∷ 6 ∷ 7 ∷ 8 ∷ 9 ∷ 10 ∷ 11 ∷ 12 ∷ 13 ∷ 14 ∷ 15 ∷ [])
 
 -- Three tables on level 0, none below, after one tidy.
-abbrev moved : Served
-moved = from (new 4) (put 1 ∷ flush ∷ put 2 ∷ flush ∷ put 3 ∷ flush ∷ tidy ∷ [])
+abbrev movedP6 : Served
+movedP6 = from (new 4) (askPut 1 ∷ askFlush ∷ askPut 2 ∷ askFlush ∷ askPut 3 ∷ askFlush ∷ askTidy ∷ [])
 
 unfoldable pub examples : List Example
 examples =
     -- P1 look up in a new store: 64
-    record { computed = reply (from (new 4) (lookUp 5 ∷ [])); expected = 64 ∷ [] }
+    record { computed = reply (from (new 4) (askLookUp 5 ∷ [])); expected = 64 ∷ [] }
     -- P2 put 5, delete 5, look up 5: 64
-    ∷ record { computed = reply (from (new 4) (put 5 ∷ delete 5 ∷ lookUp 5 ∷ [])); expected = 64 ∷ [] }
+    ∷ record { computed = reply (from (new 4) (askPut 5 ∷ askDelete 5 ∷ askLookUp 5 ∷ [])); expected = 64 ∷ [] }
     -- P3 16 keys in memory, a new one: 18
-    ∷ record { computed = reply (from (new 4) (sixteen ++ (put 16 ∷ []))); expected = 18 ∷ [] }
+    ∷ record { computed = reply (from (new 4) (sixteen ++ (askPut 16 ∷ []))); expected = 18 ∷ [] }
     -- P4 the same, a repeated key: 0
-    ∷ record { computed = reply (from (new 4) (sixteen ++ (put 7 ∷ []))); expected = 0 ∷ [] }
+    ∷ record { computed = reply (from (new 4) (sixteen ++ (askPut 7 ∷ []))); expected = 0 ∷ [] }
     -- P5 flush of empty memory: 65
-    ∷ record { computed = reply (from (new 4) (flush ∷ [])); expected = 65 ∷ [] }
+    ∷ record { computed = reply (from (new 4) (askFlush ∷ [])); expected = 65 ∷ [] }
     -- P6 three tables on level 0, none below, tidy: the oldest moved
-    ∷ record { computed = reply moved ++ level (moved .store) 0 ++ level (moved .store) 1; expected = 0 ∷ 1 ∷ 0 ∷ 0 ∷ 0 ∷ 1 ∷ 2 ∷ 0 ∷ [] }
+    ∷ record {
+      computed = reply movedP6 ++ level (movedP6 .store) 0 ++ level (movedP6 .store) 1;
+      expected = 0 ∷ 1 ∷ 0 ∷ 0 ∷ 0 ∷ 1 ∷ 2 ∷ 0 ∷ [];
+    }
     -- P7 link 5, 25, 70: ranges 0..20, 21..40, 41..2^64 - 1
     ∷ record {
       computed = rangeWords (slicesOf (planted 4 (5 ∷ 25 ∷ 70 ∷ [])) 0 0);
@@ -120,15 +131,11 @@ examples =
     ∷ record { computed = tidied 3; expected = 0 ∷ 3 ∷ 0 ∷ 1 ∷ 0 ∷ 0 ∷ [] }
     ∷ record { computed = tidied 4; expected = 65 ∷ 0 ∷ [] }
     -- P10 levels holding 3 of 2 and 12 of 8: level 0; with 13 of 8, level 1
-    ∷ record { computed = Option·getD (fullest (holding 3 12) (0 ∷ 1 ∷ [])) 9 ∷ []; expected = 0 ∷ [] }
-    ∷ record { computed = Option·getD (fullest (holding 3 13) (0 ∷ 1 ∷ [])) 9 ∷ []; expected = 1 ∷ [] }
+    ∷ record { computed = Option·getD (fullest (tablesOn 3 12) (0 ∷ 1 ∷ [])) 9 ∷ []; expected = 0 ∷ [] }
+    ∷ record { computed = Option·getD (fullest (tablesOn 3 13) (0 ∷ 1 ∷ [])) 9 ∷ []; expected = 1 ∷ [] }
     ∷ []
 
 -- ---- the slips that this store invites (document 01), each with a case that it would get wrong
-
--- A put of one byte.
-abbrev putByte : ℕ → ℕ → Request
-putByte k v = record { kind = 1; body = bytesOf 8 k ++ (v ∷ []) }
 
 abbrev entry : ℕ → ℕ → Entry
 entry k v = record { key = k; value = some (v ∷ []) }
@@ -143,8 +150,8 @@ plantedWith t tables cards levels = record {
   cursor = length tables;
   marks = none ∷ none ∷ [];
   levels = levels;
-  cards = cards ++ replicate (16 - length tables) free;
-  places = map (λ es. tableBytes es) tables ++ replicate (16 - length tables) (zeros 1024);
+  cards = cards ++ replicate (fewestPlaces - length tables) free;
+  places = map (λ es. tableBytes es) tables ++ replicate (fewestPlaces - length tables) (zeros placeSize);
   memory = [];
 }
 
@@ -159,7 +166,8 @@ unfoldable pub slips : List Example
 slips =
     -- a newer level 0 table goes down before an older one
     record {
-      computed = reply (from (new 4) (putByte 1 65 ∷ flush ∷ putByte 1 66 ∷ flush ∷ putByte 1 67 ∷ flush ∷ tidy ∷ lookUp 1 ∷ []));
+      computed = reply (from (new 4)
+          (askPutByte 1 65 ∷ askFlush ∷ askPutByte 1 66 ∷ askFlush ∷ askPutByte 1 67 ∷ askFlush ∷ askTidy ∷ askLookUp 1 ∷ []));
       expected = 0 ∷ 67 ∷ [];
     }
     -- delete marks dropped above level 3: the mark on level 2 hides the value on level 3
@@ -167,7 +175,7 @@ slips =
       computed = reply (from (plantedWith 1
           ((entry 5 65 ∷ []) ∷ (deleted 5 ∷ []) ∷ (entry 9 66 ∷ []) ∷ [])
           (live [] ∷ live (linkTo 2 0 greatest ∷ []) ∷ frozen ∷ [])
-          ([] ∷ [] ∷ (1 ∷ []) ∷ (0 ∷ []) ∷ [])) (tidy ∷ lookUp 5 ∷ []));
+          ([] ∷ [] ∷ (1 ∷ []) ∷ (0 ∷ []) ∷ [])) (askTidy ∷ askLookUp 5 ∷ []));
       expected = 64 ∷ [];
     }
     -- a whole frozen table merged, and not its slice
@@ -175,7 +183,7 @@ slips =
       computed = firstKeys (from (plantedWith 1
           (tableOf (10 ∷ 20 ∷ []) ∷ tableOf (30 ∷ 40 ∷ []) ∷ tableOf (15 ∷ 35 ∷ []) ∷ [])
           (live (linkTo 2 0 20 ∷ []) ∷ live (linkTo 2 21 greatest ∷ []) ∷ frozen ∷ [])
-          ([] ∷ (0 ∷ 1 ∷ []) ∷ [] ∷ [] ∷ [])) (tidy ∷ []) .store) 1;
+          ([] ∷ (0 ∷ 1 ∷ []) ∷ [] ∷ [] ∷ [])) (askTidy ∷ []) .store) 1;
       expected = 10 ∷ 15 ∷ 20 ∷ [];
     }
     -- the oldest link read first
@@ -183,7 +191,7 @@ slips =
       computed = reply (from (plantedWith 4
           (tableOf (5 ∷ []) ∷ (entry 7 65 ∷ []) ∷ (entry 7 66 ∷ []) ∷ [])
           (live (linkTo 1 0 greatest ∷ linkTo 2 0 greatest ∷ []) ∷ frozen ∷ frozen ∷ [])
-          ([] ∷ (0 ∷ []) ∷ [] ∷ [] ∷ [])) (lookUp 7 ∷ []));
+          ([] ∷ (0 ∷ []) ∷ [] ∷ [] ∷ [])) (askLookUp 7 ∷ []));
       expected = 0 ∷ 66 ∷ [];
     }
     -- keys between two lower tables left without a link: 25 lies between the spans 10..20 and 30..40
@@ -193,16 +201,10 @@ slips =
     }
     -- a put that was refused with 18 counted by the map
     ∷ record {
-      computed = length (fed (record { request = putByte 1 65; reply = replyBytes 1 18 [] }) []) ∷ [];
+      computed = length (fed (record { request = askPutByte 1 65; reply = replyBytes putKind memoryFull [] }) []) ∷ [];
       expected = 0 ∷ [];
     }
     ∷ []
-
-abbrev sameBytes : List ℕ → List ℕ → Bool
-sameBytes [] [] = true
-sameBytes [] (y ∷ ys) = false
-sameBytes (x ∷ xs) [] = false
-sameBytes (x ∷ xs) (y ∷ ys) = eqb x y && sameBytes xs ys
 
 -- Do all rows agree?
 unfoldable pub agree : List Example → Bool

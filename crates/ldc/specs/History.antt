@@ -1,17 +1,18 @@
 -- What demand 3 is measured by (document 01): a history of runs, the latest-write map, and the slice list.
-use Prim.Native.Nat.{ℕ, zero, suc, _+_, _≤_, _<_}
+use Prim.Native.Nat.{ℕ, zero, suc, _+_, _*_, _≤_, _<_}
 use mathlib.Core.Path.{_≡_}
 use mathlib.Core.List.{List, [], _∷_, _++_, map, List·Memᴰ}
 use mathlib.Core.Bool.{true, cond, not, _&&_}
 use mathlib.Core.Option.{Option, some, none, Option·getD}
 use lib.Dec.{leb, eqb}
 use lib.ListN.{length, take, drop}
-use Rattle.number.specs.Number.{numberAt}
+use Rattle.coding.specs.Number.{numberAt}
 use Rattle.table.specs.Entry.{Entry, lengthAt}
 use Rattle.table.specs.Search.{find}
 use Rattle.ldc.specs.Lists.{any, keep}
 use Rattle.ldc.specs.Store.{Link, Store, newStore, card, links, isLive, isFrozen, bytesAt, within}
 use Rattle.ldc.specs.Lent.{Lent, storeOf, placesIn}
+use Rattle.ldc.specs.Request.{putKind, deleteKind, lookUpKind, scanKind, tidyKind, doneResult, noValue, keySize}
 use Rattle.ldc.specs.Request.{Request, replyBytes, keyIn, highIn, valueIn}
 use Rattle.ldc.specs.Memtable.{put}
 use Rattle.ldc.specs.Read.{valueOf, scanBody}
@@ -69,24 +70,24 @@ resultIn reply = numberAt 2 reply 4
 
 unfoldable pub fed : Event → List Entry → List Entry
 fed e m =
-    cond (eqb (e .request .kind) 1 && eqb (resultIn (e .reply)) 0)
+    cond (eqb (e .request .kind) putKind && eqb (resultIn (e .reply)) doneResult)
     (put (record { key = keyIn (e .request .body); value = some (valueIn (e .request .body)) }) m)
-    (cond (eqb (e .request .kind) 2 && eqb (resultIn (e .reply)) 0)
+    (cond (eqb (e .request .kind) deleteKind && eqb (resultIn (e .reply)) doneResult)
     (keep (λ x. not (eqb (x .key) (keyIn (e .request .body)))) m)
     m)
 
 -- The reply that the map gives to a look-up: 0 and the value, or 64.
 abbrev pub mapLookUp : Option (List ℕ) → List ℕ
-mapLookUp (some v) = replyBytes 3 0 v
-mapLookUp none = replyBytes 3 64 []
+mapLookUp (some v) = replyBytes lookUpKind doneResult v
+mapLookUp none = replyBytes lookUpKind noValue []
 
 -- The reply that the map gives: to look-ups and scans of the right length, low not above high. It says nothing of other requests.
 unfoldable pub mapReply : List Entry → Request → Option (List ℕ)
 mapReply m r =
-    cond (eqb (r .kind) 3 && eqb (length (r .body)) 8)
+    cond (eqb (r .kind) lookUpKind && eqb (length (r .body)) keySize)
     (some (mapLookUp (valueOf (find (keyIn (r .body)) m))))
-    (cond (eqb (r .kind) 4 && (eqb (length (r .body)) 16 && leb (keyIn (r .body)) (highIn (r .body))))
-    (some (replyBytes 4 0 (scanBody (within (keyIn (r .body)) (highIn (r .body)) m))))
+    (cond (eqb (r .kind) scanKind && (eqb (length (r .body)) (2 * keySize) && leb (keyIn (r .body)) (highIn (r .body))))
+    (some (replyBytes scanKind doneResult (scanBody (within (keyIn (r .body)) (highIn (r .body)) m))))
     none)
 
 abbrev pub Agrees : Option (List ℕ) → List ℕ → Type 0
@@ -107,7 +108,7 @@ pub record Unmerged : Type 0 where
 
 -- The step that a request does.
 unfoldable pub stepOf : Store → Request → Step
-stepOf s r = cond (eqb (r .kind) 6 && eqb (length (r .body)) 0) (tidyStep s) idle
+stepOf s r = cond (eqb (r .kind) tidyKind && eqb (length (r .body)) 0) (tidyStep s) idle
 
 -- A link adds each link that it makes. A merge takes away all that hang on the merged table's place. Nothing else changes the list.
 abbrev pub afterStep : Store → Step → List Unmerged → List Unmerged

@@ -2,20 +2,23 @@
 --   Lists      small functions on lists
 --   Store      links, cards, the store, a new store, spans, what is to be read of a table
 --   Rules      a sound store: rules A to G as far as they speak of the store
+--   Layout     which word of the book means what
 --   Lent       the lent bytes and numbers; the store that they show; numbers 1 and 5, and the letters of the broken rules
---   Request    requests and replies: kinds, body lengths, bytes
+--   Request    requests and replies: kinds and results by name, body lengths, bytes
 --   Memtable   put and delete
 --   Place      the place taken, tables written, flush
 --   Read       the read order, look-up, scan, report
 --   Tidy       which step is due: due merge, level, choice, ranges; the step is named here
 --   Steps      the named step is done: move, link, merge
 --   Serve      serving one request
---   Run        splitting a list, serving it, run, check and make, with numbers 1 to 5
+--   Run        splitting a list, serving it, run, check and make, with numbers 1 to 5 by name
 --   History    histories, the latest-write map, the slice list, and `Demand3`
---   Examples   P1 to P10
+--   Facts      rising spans, a table to be merged or taken down, the sizes of the lent pieces: what contracts of the code name
+--   Examples   P1 to P10, and a case for each slip
 pub mod Lists
 pub mod Store
 pub mod Rules
+pub mod Layout
 pub mod Lent
 pub mod Request
 pub mod Memtable
@@ -26,4 +29,5 @@ pub mod Steps
 pub mod Serve
 pub mod Run
 pub mod History
+pub mod Facts
 pub mod Examples

@@ -8,7 +8,7 @@ use Rattle.table.specs.Entry.{Entry}
 use Rattle.table.specs.Search.{find}
 use Rattle.ldc.specs.Lists.{isSome}
 use Rattle.ldc.specs.Store.{Store, withMemory}
-use Rattle.ldc.specs.Request.{Served, done, only}
+use Rattle.ldc.specs.Request.{Served, memoryFull, done, only}
 
 -- Rising entries with one put among them, in place of an earlier one under its key.
 abbrev pub put : Entry → List Entry → List Entry
@@ -20,4 +20,4 @@ unfoldable pub servePut : Store → Entry → Served
 servePut s e =
     cond (isSome (find (e .key) (s .memory)) || ltb (length (s .memory)) tableLimit)
     (done (withMemory (put e (s .memory)) s) [])
-    (only 18 s)
+    (only memoryFull s)

@@ -8,7 +8,7 @@ use Rattle.table.specs.Entry.{Entry}
 use Rattle.table.specs.Table.{tableBytes}
 use Rattle.ldc.specs.Lists.{howMany, isEmpty}
 use Rattle.ldc.specs.Store.{Store, live, size, card, isFree, level, withCard, withLevel, withMemory, withPlace, withCursor}
-use Rattle.ldc.specs.Request.{Served, done, only}
+use Rattle.ldc.specs.Request.{Served, noRoom, nothingToDo, done, only}
 
 -- The place after this one, 0 after the last.
 unfoldable pub nextPlace : (size p : ℕ) → ℕ
@@ -48,4 +48,6 @@ flushed s = withMemory [] (withLevel 0 (level s 0 ++ (placeTaken s ∷ [])) (wri
 
 -- 65 for an empty memory, 20 with no place free.
 unfoldable pub serveFlush : Store → Served
-serveFlush s = cond (isEmpty (s .memory)) (only 65 s) (cond (eqb (freePlaces s) 0) (only 20 s) (done (flushed s) []))
+serveFlush s =
+    cond (isEmpty (s .memory)) (only nothingToDo s)
+    (cond (eqb (freePlaces s) 0) (only noRoom s) (done (flushed s) []))

@@ -5,13 +5,13 @@ use mathlib.Core.Bool.{Bool, cond}
 use mathlib.Core.Option.{Option, some, none}
 use lib.Dec.{ltb}
 use lib.ListN.{length, take}
-use Rattle.number.specs.Number.{bytesOf}
+use Rattle.coding.specs.Number.{bytesOf}
 use Rattle.table.specs.Entry.{Entry}
 use Rattle.table.specs.Table.{entriesBytes}
 use Rattle.table.specs.Search.{find}
 use Rattle.ldc.specs.Lists.{keep, howMany, flat, isSome}
 use Rattle.ldc.specs.Store.{Store, linksOf, isFree, isFrozen, level, table, sources, within}
-use Rattle.ldc.specs.Request.{Served, done, only}
+use Rattle.ldc.specs.Request.{Served, badRange, noValue, done, only}
 use Rattle.ldc.specs.Memtable.{put}
 
 -- The read order: memory; level 0 newest first; for levels 1, 2, 3 each table's links, newest first, then the table.
@@ -31,7 +31,7 @@ lookUp s k = valueOf (find k (flat (readOrder s)))
 
 abbrev pub lookUpServed : Store → Option (List ℕ) → Served
 lookUpServed s (some v) = done s v
-lookUpServed s none = only 64 s
+lookUpServed s none = only noValue s
 
 unfoldable pub serveLookUp : Store → (key : ℕ) → Served
 serveLookUp s k = lookUpServed s (lookUp s k)
@@ -67,7 +67,7 @@ scanBody found =
 
 -- Number 19: low above high.
 unfoldable pub serveScan : Store → (low high : ℕ) → Served
-serveScan s low high = cond (ltb high low) (only 19 s) (done s (scanBody (within low high (contents s))))
+serveScan s low high = cond (ltb high low) (only badRange s) (done s (scanBody (within low high (contents s))))
 
 -- ---- report
 

@@ -6,10 +6,11 @@ use lib.Dec.{leb, ltb, eqb}
 use Rattle.table.specs.Table.{isTable}
 use Rattle.ldc.specs.Lists.{all, any, howMany, isEmpty, flat, allFrom}
 use Rattle.ldc.specs.Store.{Link, Store, size, card, links, linksOf, isFree, isLive, isFrozen, bytesAt, level, slice, spanStart, spanEnd}
+use Rattle.ldc.specs.Layout.{linkLimit}
 
--- A: threshold 1 to 8 and cursor below P.
+-- A: threshold 1 to 8 (a card has room for as many links) and cursor below P.
 unfoldable pub thresholdGood : ℕ → Bool
-thresholdGood t = leb 1 t && leb t 8
+thresholdGood t = leb 1 t && leb t linkLimit
 
 unfoldable pub ruleA : Store → Bool
 ruleA s = thresholdGood (s .threshold) && ltb (s .cursor) (size s)

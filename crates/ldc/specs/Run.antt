@@ -11,8 +11,29 @@ use Rattle.ldc.specs.Lists.{any, isEmpty}
 use Rattle.ldc.specs.Store.{Store, newStore}
 use Rattle.ldc.specs.Rules.{thresholdGood}
 use Rattle.ldc.specs.Lent.{Lent, sizesGood, placesIn, chop, storeOf, lentOf, broken}
-use Rattle.ldc.specs.Request.{Request, replyOf}
+use Rattle.ldc.specs.Request.{requestHeadSize, Request, replyOf}
 use Rattle.ldc.specs.Serve.{serve}
+
+-- ---- the numbers of calls, each said once
+
+abbrev pub accepted : ℕ
+accepted = 0
+
+abbrev pub wrongSizes : ℕ
+wrongSizes = 1
+
+abbrev pub badThreshold : ℕ
+badThreshold = 2
+
+abbrev pub shortAnswer : ℕ
+shortAnswer = 3
+
+abbrev pub brokenList : ℕ
+brokenList = 4
+
+-- The store is not sound.
+abbrev pub unsound : ℕ
+unsound = 5
 
 -- ---- splitting a list
 
@@ -22,11 +43,13 @@ listLimit = 65536
 
 -- The request whose length, kind and body begin at a position.
 unfoldable pub requestAt : List ℕ → ℕ → Request
-requestAt bytes at = record { kind = kindAt bytes at; body = take (lengthAt bytes at - 4) (drop (at + 4) bytes) }
+requestAt bytes at = record { kind = kindAt bytes at; body = take (lengthAt bytes at - requestHeadSize) (drop (at + requestHeadSize) bytes) }
 
 -- Does a request with a length of at least 4 stand whole at this position?
 unfoldable pub wholeAt : List ℕ → ℕ → Bool
-wholeAt bytes at = leb (at + 4) (length bytes) && (leb 4 (lengthAt bytes at) && leb (at + lengthAt bytes at) (length bytes))
+wholeAt bytes at =
+    leb (at + requestHeadSize) (length bytes)
+    && (leb requestHeadSize (lengthAt bytes at) && leb (at + lengthAt bytes at) (length bytes))
 
 -- The requests from a position to the list's end; `none` where the lengths don't end there. (The first number only bounds how many there can be.)
 abbrev pub splitAt : ℕ → List ℕ → ℕ → Option (List Request)
@@ -46,20 +69,20 @@ abbrev pub roomLimit : ℕ
 roomLimit = 1024
 
 -- What serving a list gives: the store after it, the answer bytes, and how many requests were served.
-pub record Answered : Type 0 where
+pub record ServedAll : Type 0 where
   pub store : Store
   pub bytes : List ℕ
   pub served : ℕ
 
--- The same with one more request served before.
-abbrev pub after : List ℕ → Answered → Answered
-after reply a = record { store = a .store; bytes = reply ++ a .bytes; served = suc (a .served) }
+-- The same with one more request served before, which had this reply.
+abbrev pub prepended : (reply : List ℕ) → ServedAll → ServedAll
+prepended reply a = record { store = a .store; bytes = reply ++ a .bytes; served = suc (a .served) }
 
-abbrev pub serveAll : (room : ℕ) → Store → List Request → Answered
+abbrev pub serveAll : (room : ℕ) → Store → List Request → ServedAll
 serveAll room s [] = record { store = s; bytes = []; served = 0 }
 serveAll room s (r ∷ rs) =
     cond (ltb room roomLimit) (record { store = s; bytes = []; served = 0 })
-    (after (replyOf r (serve s r)) (serveAll (room - length (replyOf r (serve s r))) (serve s r .store) rs))
+    (prepended (replyOf r (serve s r)) (serveAll (room - length (replyOf r (serve s r))) (serve s r .store) rs))
 
 -- ---- run
 
@@ -76,9 +99,9 @@ abbrev pub refusedRun : ℕ → Lent → List ℕ → Outcome
 refusedRun number m answer = record { number = number; served = 0; written = 0; lent = m; answer = answer }
 
 -- Bytes of the answer buffer beyond those written are untouched.
-abbrev pub acceptedRun : Answered → List ℕ → Outcome
+abbrev pub acceptedRun : ServedAll → List ℕ → Outcome
 acceptedRun a answer = record {
-  number = 0;
+  number = accepted;
   served = a .served;
   written = length (a .bytes);
   lent = lentOf (a .store);
@@ -86,26 +109,26 @@ acceptedRun a answer = record {
 }
 
 abbrev pub runSplit : Lent → Option (List Request) → List ℕ → Outcome
-runSplit m none answer = refusedRun 4 m answer
+runSplit m none answer = refusedRun brokenList m answer
 runSplit m (some rs) answer =
-    cond (isEmpty (broken m)) (acceptedRun (serveAll (length answer) (storeOf m) rs) answer) (refusedRun 5 m answer)
+    cond (isEmpty (broken m)) (acceptedRun (serveAll (length answer) (storeOf m) rs) answer) (refusedRun unsound m answer)
 
 -- Refused by 1, 3, 4, 5, in this order; otherwise the requests are served in order.
 unfoldable pub run : Lent → (list answer : List ℕ) → Outcome
 run m list answer =
     cond (sizesGood m)
-    (cond (ltb (length answer) roomLimit) (refusedRun 3 m answer) (runSplit m (split list) answer))
-    (refusedRun 1 m answer)
+    (cond (ltb (length answer) roomLimit) (refusedRun shortAnswer m answer) (runSplit m (split list) answer))
+    (refusedRun wrongSizes m answer)
 
 -- ---- check and make
 
 -- 0, 1 or 5.
 unfoldable pub check : Lent → ℕ
-check m = cond (sizesGood m) (cond (isEmpty (broken m)) 0 5) 1
+check m = cond (sizesGood m) (cond (isEmpty (broken m)) accepted unsound) wrongSizes
 
 -- The letter that comes with 5 is that of a broken rule; which one is left open here. With every other number it is 0.
 unfoldable pub LetterOf : Lent → (number letter : ℕ) → Type 0
-LetterOf m number l = T (cond (eqb number 5) (any (eqb l) (broken m)) (eqb l 0))
+LetterOf m number l = T (cond (eqb number unsound) (any (eqb l) (broken m)) (eqb l 0))
 
 -- What making a store returns and leaves: 1 for sizes, then 2 for a threshold outside 1 to 8, nothing changed; otherwise a new store.
 pub record Made : Type 0 where
@@ -116,6 +139,6 @@ unfoldable pub make : Lent → (threshold : ℕ) → Made
 make m t =
     cond (sizesGood m)
     (cond (thresholdGood t)
-    (record { number = 0; lent = lentOf (newStore t (chop (placesIn (m .area)) (m .area))) })
-    (record { number = 2; lent = m }))
-    (record { number = 1; lent = m })
+    (record { number = accepted; lent = lentOf (newStore t (chop (placesIn (m .area)) (m .area))) })
+    (record { number = badThreshold; lent = m }))
+    (record { number = wrongSizes; lent = m })

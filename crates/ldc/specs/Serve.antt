@@ -6,7 +6,8 @@ use mathlib.Core.Option.{some, none}
 use lib.Dec.{eqb}
 use lib.ListN.{length}
 use Rattle.ldc.specs.Store.{Store}
-use Rattle.ldc.specs.Request.{Request, Served, known, bodyGood, keyIn, highIn, valueIn, only}
+use Rattle.ldc.specs.Request.{putKind, deleteKind, lookUpKind, scanKind, flushKind, tidyKind, unknownKind, wrongLength, Request, Served}
+use Rattle.ldc.specs.Request.{known, bodyGood, keyIn, highIn, valueIn, only}
 use Rattle.ldc.specs.Memtable.{servePut}
 use Rattle.ldc.specs.Place.{serveFlush}
 use Rattle.ldc.specs.Read.{serveLookUp, serveScan, serveReport}
@@ -15,17 +16,17 @@ use Rattle.ldc.specs.Steps.{serveTidy}
 -- A request of a known kind with a body of the right length.
 unfoldable pub serveKind : Store → (kind : ℕ) → (body : List ℕ) → Served
 serveKind s kind body =
-    cond (eqb kind 1) (servePut s (record { key = keyIn body; value = some (valueIn body) }))
-    (cond (eqb kind 2) (servePut s (record { key = keyIn body; value = none }))
-    (cond (eqb kind 3) (serveLookUp s (keyIn body))
-    (cond (eqb kind 4) (serveScan s (keyIn body) (highIn body))
-    (cond (eqb kind 5) (serveFlush s)
-    (cond (eqb kind 6) (serveTidy s)
+    cond (eqb kind putKind) (servePut s (record { key = keyIn body; value = some (valueIn body) }))
+    (cond (eqb kind deleteKind) (servePut s (record { key = keyIn body; value = none }))
+    (cond (eqb kind lookUpKind) (serveLookUp s (keyIn body))
+    (cond (eqb kind scanKind) (serveScan s (keyIn body) (highIn body))
+    (cond (eqb kind flushKind) (serveFlush s)
+    (cond (eqb kind tidyKind) (serveTidy s)
     (serveReport s))))))
 
 -- 16 unknown kind, 17 body length wrong for the kind.
 unfoldable pub serve : Store → Request → Served
 serve s r =
     cond (known (r .kind))
-    (cond (bodyGood (r .kind) (length (r .body))) (serveKind s (r .kind) (r .body)) (only 17 s))
-    (only 16 s)
+    (cond (bodyGood (r .kind) (length (r .body))) (serveKind s (r .kind) (r .body)) (only wrongLength s))
+    (only unknownKind s)

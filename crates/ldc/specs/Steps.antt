@@ -5,11 +5,11 @@ use mathlib.Core.Bool.{Bool, true, false, cond, _&&_}
 use mathlib.Core.Option.{Option, some}
 use lib.Dec.{eqb}
 use lib.ListN.{set}
-use Rattle.number.specs.Number.{bytesOf}
+use Rattle.coding.specs.Number.{bytesOf}
 use Rattle.table.specs.Search.{greatestKey}
 use Rattle.ldc.specs.Store.{free, live, frozen, Store, level, links, table, withCard, withLevel, withMarks}
 use Rattle.ldc.specs.Rules.{named}
-use Rattle.ldc.specs.Request.{Served, done, only}
+use Rattle.ldc.specs.Request.{Served, noRoom, nothingToDo, done, only}
 use Rattle.ldc.specs.Place.{writtenAll, placesTaken}
 use Rattle.ldc.specs.Tidy.{Slice, Step, idle, refused, moved, linked, merged, mergedTables, tidyStep}
 
@@ -60,13 +60,23 @@ doStep (moved n p) s = doMove n p s
 doStep (linked n p slices) s = doLink n p slices s
 doStep (merged n p) s = doMerge n p s
 
--- Step (2 bytes: 1 moved, 2 linked, 3 merged), level (2).
+-- The steps by number.
+abbrev pub movedNumber : ℕ
+movedNumber = 1
+
+abbrev pub linkedNumber : ℕ
+linkedNumber = 2
+
+abbrev pub mergedNumber : ℕ
+mergedNumber = 3
+
+-- Step (2 bytes), level (2).
 abbrev pub stepServed : Step → Store → Served
-stepServed idle s = only 65 s
-stepServed refused s = only 20 s
-stepServed (moved n p) s = done (doMove n p s) (bytesOf 2 1 ++ bytesOf 2 n)
-stepServed (linked n p slices) s = done (doLink n p slices s) (bytesOf 2 2 ++ bytesOf 2 n)
-stepServed (merged n p) s = done (doMerge n p s) (bytesOf 2 3 ++ bytesOf 2 n)
+stepServed idle s = only nothingToDo s
+stepServed refused s = only noRoom s
+stepServed (moved n p) s = done (doMove n p s) (bytesOf 2 movedNumber ++ bytesOf 2 n)
+stepServed (linked n p slices) s = done (doLink n p slices s) (bytesOf 2 linkedNumber ++ bytesOf 2 n)
+stepServed (merged n p) s = done (doMerge n p s) (bytesOf 2 mergedNumber ++ bytesOf 2 n)
 
 unfoldable pub serveTidy : Store → Served
 serveTidy s = stepServed (tidyStep s) s

@@ -46,6 +46,10 @@ newStore t places = record {
 
 -- ---- what stands where
 
+-- The last of the levels 0 to 3.
+abbrev pub lastLevel : ℕ
+lastLevel = 3
+
 -- The number of places, P.
 unfoldable pub size : Store → ℕ
 size s = length (s .cards)

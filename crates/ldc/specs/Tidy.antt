@@ -9,7 +9,7 @@ use Rattle.table.specs.Limits.{tableLimit}
 use Rattle.table.specs.Entry.{Entry}
 use Rattle.table.specs.Search.{leastKey}
 use Rattle.ldc.specs.Lists.{keep, first, isEmpty}
-use Rattle.ldc.specs.Store.{Store, level, links, table, mark, sources, spanEnd, within}
+use Rattle.ldc.specs.Store.{Store, lastLevel, level, links, table, mark, sources, spanEnd, within}
 use Rattle.ldc.specs.Read.{gather, holdsValue}
 use Rattle.ldc.specs.Place.{freePlaces}
 
@@ -32,7 +32,7 @@ pub data Step : Type 0 where
 
 -- Does a merge on this level drop this delete mark?
 unfoldable pub dropsMark : (level : ℕ) → Entry → Bool
-dropsMark n e = eqb n 3
+dropsMark n e = eqb n lastLevel
 
 -- The table's entries and those in its links' ranges, one for each key, the newer winning, without the marks that are dropped.
 unfoldable pub mergedEntries : Store → (level place : ℕ) → List Entry
@@ -80,8 +80,11 @@ dueTable s = dueIn s (1 ∷ 2 ∷ 3 ∷ [])
 -- ---- the level
 
 -- Capacities of levels 0, 1 and 2, in live tables.
+abbrev pub capacities : List ℕ
+capacities = 2 ∷ 8 ∷ 32 ∷ []
+
 unfoldable pub capacity : ℕ → ℕ
-capacity n = getD (2 ∷ 8 ∷ 32 ∷ []) n 0
+capacity n = getD capacities n 0
 
 -- Is the second level fuller than the first, by live tables over capacity?
 unfoldable pub fuller : (live : ℕ → ℕ) → (n m : ℕ) → Bool

@@ -8,28 +8,28 @@ use native.Mathlib.Numerals.{add-one}
 use borrow.Author.Tests.{ltb-true}
 use lib.ListN.{length, length-append}
 use Rattle.table.specs.Limits.{entryHead, entryLimit, tableHead, tableLimit}
-use Rattle.table.specs.Entry.{Entry, entryLength, entryOf, entryForm, lengthAt, keyAt}
-use Rattle.table.specs.Table.{countOf, entries, entriesAt, entriesGood, entriesBytes, tableLength, tableBytes, appended, Appends}
-use Rattle.table.specs.Search.{find, positionAt, positionIn}
+use Rattle.table.specs.Entry.{Entry, entryLength, entryOf, lengthAt, keyAt}
+use Rattle.table.specs.Table.{countOf, entries, entriesAt, entriesGood, entriesBytes, tableLength, tableBytes, appended, RoomFor}
+use Rattle.table.specs.Search.{find, countBelow, positionAt, positionIn}
 use Rattle.table.proofs.Tests.{cases}
 use Rattle.table.proofs.Form.{formed, length-kept}
 use Rattle.table.proofs.Position.{good-entry, good-end, memory-good, length-bounds}
 use Rattle.table.proofs.Entries.{length-entries}
 use Rattle.table.proofs.Decode.{head-shown, length-tableBytes}
 use Rattle.table.proofs.Append.{append-encode, length-snoc}
+use Rattle.table.proofs.Taken.{entry-long}
 use Rattle.ldc.specs.Lists.{isSome}
 use Rattle.ldc.specs.Memtable.{put}
-use Rattle.spot.specs.Appends.{below, appends, Room}
+use Rattle.memtable.specs.Appends.{appends}
 use Rattle.memtable.specs.Put.{Puts}
-use Rattle.spot.proofs.Turn.{entry-long}
 use Rattle.memtable.proofs.Split.{below-few, below-fewer, next, put-split}
 
--- Entries of at most 60 bytes.
+-- Entries of at most `entryLimit` bytes.
 abbrev Shorts : List Entry → Type 0
 Shorts [] = Unit {0}
 Shorts (e ∷ es) = (entryLength e ≤ entryLimit) × Shorts es
 
--- A table's length in use is at most 60 bytes an entry behind its head.
+-- A table's length in use is at most `entryLimit` bytes an entry behind its head.
 abbrev Slim : List Entry → Type 0
 Slim ds = tableLength ds ≤ tableHead + entryLimit * length ds
 
@@ -40,7 +40,7 @@ slim-none = omega arith
 slim-snoc : (ds : List Entry) (e : Entry) → Slim ds → entryLength e ≤ entryLimit → Slim (ds ++ e ∷ [])
 slim-snoc ds e d h = omega (arith, length-snoc ds e, length-append ds (e ∷ []))
 
-pub room-table : (n : ℕ) (ds : List Entry) → Slim ds → length ds + n ≤ tableLimit → Room n (tableBytes ds)
+pub room-table : (n : ℕ) (ds : List Entry) → Slim ds → length ds + n ≤ tableLimit → RoomFor n (tableBytes ds)
 unfolding tableLength
 room-table n ds d h =
     let hd = head-shown ds (omega arith) (omega arith) in
@@ -89,85 +89,79 @@ unfolding entriesAt
 length-at zero s at = refl
 length-at (suc n) s at = ap suc (length-at n s (at + lengthAt s at))
 
-module _ (to s : List ℕ) (there : Bool) (kind key : ℕ) (v : List ℕ) (p : Puts to s there kind key v) where
+module _ (to s : List ℕ) (held : Bool) (kind key : ℕ) (v : List ℕ) (p : Puts to s held kind key v) where
   -- The new one begins where those behind it do, or one before.
-  pub next-is : next key (entries s) ≡ cond there (below key (entries s) + 1) (below key (entries s))
+  pub next-is : next key (entries s) ≡ cond held (countBelow key (entries s) + 1) (countBelow key (entries s))
   unfolding next
   next-is = rw (p .found, add-one)
 
-  pub few-below : (below key (entries s) ≤ countOf s) × (there ≡ true → below key (entries s) < countOf s)
+  pub few-below : (countBelow key (entries s) ≤ countOf s) × (held ≡ true → countBelow key (entries s) < countOf s)
   few-below = (
     omega (arith, below-few key (entries s), length-entries s),
     λ t. omega (arith, below-fewer key (entries s) (sym (p .found) ∙ t), length-entries s),
   )
 
   -- There is room for one more.
-  pub few-next : (next key (entries s) ≤ countOf s) × (below key (entries s) + 1 + (countOf s - next key (entries s)) ≤ tableLimit)
+  pub few-next : (next key (entries s) ≤ countOf s) × (countBelow key (entries s) + 1 + (countOf s - next key (entries s)) ≤ tableLimit)
   unfolding next
   few-next =
       let g = memory-good s (p .good) in
       cases (isSome (find key (entries s)))
       (λ q. rw q (omega (arith, below-fewer key (entries s) q, length-entries s, g .few)))
-      (λ q. let none : there ≡ false = p .found ∙ q in
+      (λ q. let none : held ≡ false = p .found ∙ q in
       let few : countOf s < tableLimit = ltb-true _ _ (rw none at (p .room)) in
       rw q (omega (arith, few-below .0)))
 
-  first-part : (appends (entriesAt (below key (entries s)) s tableHead) (tableBytes []) ≡ tableBytes (entriesAt (below key (entries s)) s tableHead))
-      × Slim (entriesAt (below key (entries s)) s tableHead)
+  first-part : (appends (entriesAt (countBelow key (entries s)) s tableHead) (tableBytes []) ≡ tableBytes (entriesAt (countBelow key (entries s)) s tableHead))
+      × Slim (entriesAt (countBelow key (entries s)) s tableHead)
   first-part =
       let g = memory-good s (p .good) in
-      appends-table (entriesAt (below key (entries s)) s tableHead) [] slim-none
-      (shorts (below key (entries s)) (countOf s) s tableHead 0 (lengthAt s 0) (g .good) (omega (arith, length-bounds s (p .good), p .place)) (few-below .0))
-      (omega (arith, length-at (below key (entries s)) s tableHead, few-below .0, g .few))
+      appends-table (entriesAt (countBelow key (entries s)) s tableHead) [] slim-none
+      (shorts (countBelow key (entries s)) (countOf s) s tableHead 0 (lengthAt s 0) (g .good) (omega (arith, length-bounds s (p .good), p .place)) (few-below .0))
+      (omega (arith, length-at (countBelow key (entries s)) s tableHead, few-below .0, g .few))
 
   entry-short : entryLength (entryOf kind key v) ≤ entryLimit
   entry-short = omega (arith, length-kept kind key v (p .form), formed kind (entryHead + length v) (p .form) .high)
 
-  second-part : appended (entryOf kind key v) (tableBytes (entriesAt (below key (entries s)) s tableHead)) ≡ tableBytes (entriesAt (below key (entries s)) s tableHead ++ entryOf kind key v ∷ [])
-  second-part = append-encode (entriesAt (below key (entries s)) s tableHead) (entryOf kind key v)
-      (omega (arith, entry-short, first-part .1, length-at (below key (entries s)) s tableHead, few-next .1))
-      (omega (arith, length-at (below key (entries s)) s tableHead, few-next .1))
+  second-part : appended (entryOf kind key v) (tableBytes (entriesAt (countBelow key (entries s)) s tableHead)) ≡ tableBytes (entriesAt (countBelow key (entries s)) s tableHead ++ entryOf kind key v ∷ [])
+  second-part = append-encode (entriesAt (countBelow key (entries s)) s tableHead) (entryOf kind key v)
+      (omega (arith, entry-short, first-part .1, length-at (countBelow key (entries s)) s tableHead, few-next .1))
+      (omega (arith, length-at (countBelow key (entries s)) s tableHead, few-next .1))
 
   -- The new entry's place in the order.
   split : put (entryOf kind key v) (entries s)
-      ≡ entriesAt (below key (entries s)) s tableHead
+      ≡ entriesAt (countBelow key (entries s)) s tableHead
       ++ (entryOf kind key v ∷ entriesAt (countOf s - next key (entries s)) s (positionIn (next key (entries s)) s))
   unfolding entries positionIn entryOf
   split = put-split (entryOf kind key v) (countOf s) s tableHead 0 (lengthAt s 0) (memory-good s (p .good) .good)
 
   -- The three parts, one behind the other.
   pub built : appends (entriesAt (countOf s - next key (entries s)) s (positionIn (next key (entries s)) s))
-      (appended (entryOf kind key v) (appends (entriesAt (below key (entries s)) s tableHead) (tableBytes [])))
+      (appended (entryOf kind key v) (appends (entriesAt (countBelow key (entries s)) s tableHead) (tableBytes [])))
       ≡ tableBytes (put (entryOf kind key v) (entries s))
   unfolding positionIn
   built =
       let g = memory-good s (p .good) in
-      let ds = entriesAt (below key (entries s)) s tableHead in
+      let ds = entriesAt (countBelow key (entries s)) s tableHead in
       let e = entryOf kind key v in
       let j = next key (entries s) in
       let rest = entriesAt (countOf s - j) s (positionIn j s) in
       let third = appends-table rest (ds ++ e ∷ []) (slim-snoc ds e (first-part .1) entry-short)
       (shorts-from j (countOf s) s tableHead 0 (lengthAt s 0) (g .good) (omega (arith, length-bounds s (p .good), p .place)) (few-next .0))
-      (omega (arith, length-append ds (e ∷ []), length-at (below key (entries s)) s tableHead, length-at (countOf s - j) s (positionIn j s), few-next .1)) in
+      (omega (arith, length-append ds (e ∷ []), length-at (countBelow key (entries s)) s tableHead, length-at (countOf s - j) s (positionIn j s), few-next .1)) in
       rw (first-part .0, second-part) (third .0 ∙ ap tableBytes (append-assoc ds (e ∷ []) rest ∙ sym split))
 
   -- What the code is given on the way.
-  pub room-first : Room (below key (entries s) - 0) (tableBytes [])
-  room-first = room-table (below key (entries s) - 0) [] slim-none (omega (arith, few-below .0, memory-good s (p .good) .few))
+  pub room-first : RoomFor (countBelow key (entries s) - 0) (tableBytes [])
+  room-first = room-table (countBelow key (entries s) - 0) [] slim-none (omega (arith, few-below .0, memory-good s (p .good) .few))
 
-  pub room-second : Room 1 (appends (entriesAt (below key (entries s)) s tableHead) (tableBytes []))
-  room-second = rw (first-part .0) (room-table 1 (entriesAt (below key (entries s)) s tableHead) (first-part .1)
-      (omega (arith, length-at (below key (entries s)) s tableHead, few-next .1)))
+  pub room-second : RoomFor 1 (appends (entriesAt (countBelow key (entries s)) s tableHead) (tableBytes []))
+  room-second = rw (first-part .0) (room-table 1 (entriesAt (countBelow key (entries s)) s tableHead) (first-part .1)
+      (omega (arith, length-at (countBelow key (entries s)) s tableHead, few-next .1)))
 
-  pub room-third : Room (countOf s - next key (entries s)) (appended (entryOf kind key v) (appends (entriesAt (below key (entries s)) s tableHead) (tableBytes [])))
+  pub room-third : RoomFor (countOf s - next key (entries s)) (appended (entryOf kind key v) (appends (entriesAt (countBelow key (entries s)) s tableHead) (tableBytes [])))
   room-third =
-      let ds = entriesAt (below key (entries s)) s tableHead in
+      let ds = entriesAt (countBelow key (entries s)) s tableHead in
       rw (first-part .0, second-part)
       (room-table (countOf s - next key (entries s)) (ds ++ entryOf kind key v ∷ []) (slim-snoc ds (entryOf kind key v) (first-part .1) entry-short)
-      (omega (arith, length-append ds (entryOf kind key v ∷ []), length-at (below key (entries s)) s tableHead, few-next .1)))
-
--- Room for one is room for an entry of the right form.
-pub room-appends : (s : List ℕ) (kind : ℕ) (v : List ℕ) → Room 1 s → entryForm kind (entryHead + length v) ≡ true → Appends s kind v
-room-appends s kind v r h =
-    let f = formed kind (entryHead + length v) h in
-    record { place = r .place; begun = r .begun; form = h; room = omega (arith, r .small, r .few); few = omega (arith, r .few) }
+      (omega (arith, length-append ds (entryOf kind key v ∷ []), length-at (countBelow key (entries s)) s tableHead, few-next .1)))

@@ -11,13 +11,12 @@ use lib.Dec.{leb, eqb}
 use lib.ListN.{length}
 use Rattle.table.specs.Entry.{Entry, lengthAt, keyAt, entryAt}
 use Rattle.table.specs.Table.{entriesAt, entriesGood}
-use Rattle.table.specs.Search.{find, positionAt}
+use Rattle.table.specs.Search.{find, countBelow, positionAt}
 use Rattle.table.proofs.Tests.{cases}
 use Rattle.table.proofs.Position.{good-entry}
 use Rattle.table.proofs.Found.{entryAt-key}
 use Rattle.ldc.specs.Lists.{isSome}
 use Rattle.ldc.specs.Memtable.{put}
-use Rattle.spot.specs.Appends.{below}
 
 -- Below the first key nothing is found.
 none-below : (k n : ℕ) (s : List ℕ) (at least end : ℕ) → entriesGood n s at least end ≡ true → k < least → find k (entriesAt n s at) ≡ none
@@ -29,13 +28,13 @@ none-below k (suc n) s at least end g h =
     (none-below k n s (at + lengthAt s at) (suc (keyAt s at)) end (e .rest) (omega arith))
 
 -- Those in front are no more than all, and fewer if the key is there.
-pub below-few : (k : ℕ) (es : List Entry) → below k es ≤ length es
-unfolding below
+pub below-few : (k : ℕ) (es : List Entry) → countBelow k es ≤ length es
+unfolding countBelow
 below-few k [] = omega arith
 below-few k (e ∷ es) = cases (leb k (e .key)) (λ q. rw q (omega arith)) (λ q. rw q (omega (arith, below-few k es)))
 
-pub below-fewer : (k : ℕ) (es : List Entry) → isSome (find k es) ≡ true → below k es < length es
-unfolding below find
+pub below-fewer : (k : ℕ) (es : List Entry) → isSome (find k es) ≡ true → countBelow k es < length es
+unfolding countBelow find
 below-fewer k [] h = absurd (false≢true h)
 below-fewer k (e ∷ es) h =
     cases (leb k (e .key)) (λ q. rw q (omega arith))
@@ -49,13 +48,13 @@ cond-suc false i = refl
 
 -- Where the entries behind the new one begin.
 unfoldable pub next : (key : ℕ) → List Entry → ℕ
-next k es = cond (isSome (find k es)) (suc (below k es)) (below k es)
+next k es = cond (isSome (find k es)) (suc (countBelow k es)) (countBelow k es)
 
 pub put-split : (e : Entry) (n : ℕ) (s : List ℕ) (at least end : ℕ) → entriesGood n s at least end ≡ true
     → put e (entriesAt n s at)
-    ≡ entriesAt (below (e .key) (entriesAt n s at)) s at
+    ≡ entriesAt (countBelow (e .key) (entriesAt n s at)) s at
     ++ (e ∷ entriesAt (n - next (e .key) (entriesAt n s at)) s (positionAt (next (e .key) (entriesAt n s at)) s at))
-unfolding entriesAt below find next positionAt
+unfolding entriesAt countBelow find next positionAt
 put-split e zero s at least end g = refl
 put-split e (suc n) s at least end g =
     let k = e .key in
@@ -76,5 +75,5 @@ put-split e (suc n) s at least end g =
     (λ q. let lt = leb-false k x q in
     let less : suc n - suc (next k rest) ≡ n - next k rest = omega arith in
     let ih = put-split e n s (at + lengthAt s at) (suc (keyAt s at)) end (h .rest) in
-    rw (q, ne-eqb x k (λ p. omega arith), le-ltb k x (omega arith), ne-eqb k x (λ p. omega arith), cond-suc (isSome (find k rest)) (below k rest), less)
+    rw (q, ne-eqb x k (λ p. omega arith), le-ltb k x (omega arith), ne-eqb k x (λ p. omega arith), cond-suc (isSome (find k rest)) (countBelow k rest), less)
     (ap (λ es. entryAt s at ∷ es) ih))

@@ -10,6 +10,7 @@ use Rattle.table.specs.Entry.{Entry, entryForm}
 use Rattle.table.specs.Table.{countOf, entries, tableBytes, isMemory}
 use Rattle.table.specs.Search.{find}
 use Rattle.ldc.specs.Lists.{isSome}
+use Rattle.ldc.specs.Request.{doneResult, memoryFull}
 use Rattle.ldc.specs.Memtable.{put}
 
 -- What a put gives: its number, and the memory table's bytes after it.
@@ -17,18 +18,19 @@ pub record Putting : Type 0 where
   pub result : ℕ
   pub bytes : List ℕ
 
--- Number 18: a new key when the table holds 16.
+-- Number 18: a new key when the table is full.
 unfoldable pub putIn : Entry → List ℕ → Putting
 putIn e s =
     cond (isSome (find (e .key) (entries s)) || ltb (length (entries s)) tableLimit)
-    (record { result = 0; bytes = tableBytes (put e (entries s)) })
-    (record { result = 18; bytes = s })
+    (record { result = doneResult; bytes = tableBytes (put e (entries s)) })
+    (record { result = memoryFull; bytes = s })
 
--- What may be put: an entry of the right form among those of a memory table, if its key is there or there are fewer than 16.
-pub record Puts (to s : List ℕ) (there : Bool) (kind key : ℕ) (value : List ℕ) : Type 0 where
+-- What may be put: an entry of the right form among those of a memory table, if its key is there or the table is not
+-- full.
+pub record Puts (to s : List ℕ) (held : Bool) (kind key : ℕ) (value : List ℕ) : Type 0 where
   pub target : length to ≡ placeSize
   pub place : length s ≡ placeSize
   pub good : isMemory s ≡ true
   pub form : entryForm kind (entryHead + length value) ≡ true
-  pub found : there ≡ isSome (find key (entries s))
-  pub room : (there || ltb (countOf s) tableLimit) ≡ true
+  pub found : held ≡ isSome (find key (entries s))
+  pub room : (held || ltb (countOf s) tableLimit) ≡ true

@@ -1,40 +1,36 @@
 -- What a hit says: found in a table, the first of two, and one turn of the walks that go newest first.
-use Prim.Native.Nat.{ℕ, zero, suc, _*_, _-_, _≤_, _<_}
+use Prim.Native.Nat.{ℕ, zero, suc, _-_, _≤_, _<_}
 use mathlib.Core.Path.{_≡_, sym, _∙_, ap}
-use mathlib.Core.Bool.{true, false, _&&_}
+use mathlib.Core.Bool.{true, false, not, _&&_}
 use mathlib.Core.List.{List, [], _∷_, map, reverse, reverse-append}
 use mathlib.Core.Option.{Option, some, none}
 use native.Mathlib.Omega.{arith}
-use lib.Dec.{leb}
+use lib.Dec.{leb, eqb}
 use lib.ListN.{length, getD, take}
 use lib.Seq.{take-suc}
-use Rattle.table.specs.Limits.{placeSize}
-use Rattle.table.specs.Entry.{Entry}
-use Rattle.table.specs.Table.{entries, placeAt}
+use Rattle.table.specs.Entry.{Entry, entryOf, entryAt, kindAt}
+use Rattle.table.specs.Table.{entries, placeOf}
 use Rattle.table.specs.Search.{find, findIn, shown}
 use Rattle.table.specs.declared.search.Found.the-variants as found
-use Rattle.table.proofs.Position.{Stands}
 use Rattle.table.proofs.Found.{shown-find, find-stands}
-use Rattle.ldc.specs.Lists.{flat}
+use Rattle.table.proofs.Taken.{seated-of}
+use Rattle.ldc.specs.Lists.{flat, isSome}
 use Rattle.ldc.specs.Store.{within}
+use Rattle.ldc.proofs.Basics.Cases.{cases}
 use Rattle.ldc.proofs.Entries.Finds.{orElse, find-append, find-within}
 use Rattle.read.specs.Shown.{Tabled}
-use Rattle.read.specs.Hit.{hitEntry, Seated, Hits}
-use Rattle.read.specs.declared.hit.Hit.{Hit}
-use Rattle.read.specs.declared.hit.Hit.the-variants.{At, Nothing}
+use Rattle.read.specs.Found.{hitEntry, Hits}
+use Rattle.read.specs.declared.found.Hit.{Hit}
+use Rattle.read.specs.declared.found.Hit.the-variants.{At, Nothing}
 use Rattle.read.proofs.Shows.{place-memory}
-
--- What stands in a table stands whole.
-pub seated-of : (s : List ℕ) (at : ℕ) → Stands s at → Seated s at
-seated-of s at t = record { form = t .form; low = t .low; high = t .high; room = t .room }
 
 -- ---- in a table
 
-pub hit-found : (area : List ℕ) (p k at : ℕ) → Tabled area p → findIn (placeAt (p * placeSize) area) k ≡ found.At at
-    → Hits area (find k (entries (placeAt (p * placeSize) area))) (At p at)
+pub hit-found : (area : List ℕ) (p k at : ℕ) → Tabled area p → findIn (placeOf area p) k ≡ found.At at
+    → Hits area (find k (entries (placeOf area p))) (At p at)
 unfolding shown
 hit-found area p k at t h =
-    let s = placeAt (p * placeSize) area in
+    let s = placeOf area p in
     record {
       shown = sym (ap (shown s) h) ∙ shown-find s k;
       seated = (t .within, seated-of s at (find-stands s (place-memory area p t) k at h .0));
@@ -43,9 +39,9 @@ hit-found area p k at t h =
 pub hit-none : (area : List ℕ) (o : Option Entry) → o ≡ none → Hits area o Nothing
 hit-none area o e = record { shown = sym e; seated = tt }
 
-pub missed : (area : List ℕ) (p k : ℕ) → findIn (placeAt (p * placeSize) area) k ≡ found.Nothing → find k (entries (placeAt (p * placeSize) area)) ≡ none
+pub missed : (area : List ℕ) (p k : ℕ) → findIn (placeOf area p) k ≡ found.Nothing → find k (entries (placeOf area p)) ≡ none
 unfolding shown
-missed area p k h = let s = placeAt (p * placeSize) area in sym (shown-find s k) ∙ ap (shown s) h
+missed area p k h = let s = placeOf area p in sym (shown-find s k) ∙ ap (shown s) h
 
 -- What a hit says of what was sought.
 pub hit-nothing : (area : List ℕ) (o : Option Entry) (h : Hit) → Hits area o h → h ≡ Nothing → o ≡ none
@@ -55,6 +51,13 @@ pub hit-some : (area : List ℕ) (o : Option Entry) (h : Hit) (p at : ℕ) → H
 hit-some area o h p at t e n =
     let clash : _≡_ {A = Option Entry} none (some _) = sym n ∙ sym (t .shown) ∙ ap (hitEntry area) e in
     let z : _≡_ {A = ℕ} 0 1 = cc in omega arith
+
+-- ---- by its kind
+
+-- An entry that is no delete mark holds a value.
+pub value-test : (s : List ℕ) (at : ℕ) → not (eqb (kindAt s at) 2) ≡ isSome (entryAt s at .value)
+unfolding entryAt entryOf
+value-test s at = cases (eqb (kindAt s at) 2) (λ q. rw q) (λ q. rw q)
 
 -- ---- in a slice
 

@@ -1,5 +1,5 @@
 -- Kept memory shows a sound store, its levels can be read, and the read order is what the code reads, level by level.
-use Prim.Native.Nat.{ℕ, suc, _*_, _≤_, _<_}
+use Prim.Native.Nat.{ℕ, suc, _≤_, _<_}
 use mathlib.Core.Path.{_≡_, refl, sym, _∙_, ap}
 use mathlib.Core.Bool.{false, true≢false}
 use mathlib.Core.List.{List, [], _∷_, _++_, map, reverse, append-nil, List·Memᴰ}
@@ -7,15 +7,15 @@ use native.Mathlib.Omega.{arith}
 use borrow.Author.Tests.{ltb-true, ltb-false}
 use lib.Dec.{ltb}
 use lib.ListN.{length, getD}
-use Rattle.number.specs.Number.{Bytes}
+use Rattle.coding.specs.Number.{Bytes}
 use Rattle.table.specs.Limits.{placeSize}
 use Rattle.table.specs.Entry.{Entry}
-use Rattle.table.specs.Table.{entries, placeAt, isMemory}
+use Rattle.table.specs.Table.{entries, isMemory, placeOf}
 use Rattle.table.proofs.Tests.{cases}
 use Rattle.table.proofs.Encode.{shows-valid}
 use Rattle.ldc.specs.Lists.{flat}
 use Rattle.ldc.specs.Store.{Link, Store, size, card, links, isFree, bytesAt, table, level, sources}
-use Rattle.ldc.specs.Lent.{Lent, placesIn, linkCount, listLength, storeOf}
+use Rattle.ldc.specs.Lent.{Lent, placesIn, storeOf}
 use Rattle.ldc.specs.Read.{readOrder}
 use Rattle.ldc.proofs.Stores.CardFacts.{live-not-free, frozen-not-free}
 use Rattle.ldc.proofs.Stores.Facts.{listed-live, link-frozen}
@@ -28,10 +28,11 @@ use Rattle.ldc.proofs.Lent.Round.{chop-parts}
 use Rattle.ldc.proofs.Stores.Sound.{Sound}
 use Rattle.ldc.proofs.Stores.SoundRules.{beyond, below-size, sound-of}
 use Rattle.ldc.proofs.Stores.Spans.{flat-append, reads-flat}
-use Rattle.book.specs.Row.{linkAt}
-use Rattle.book.proofs.Rows.{link-of, count-of}
-use Rattle.read.specs.Shown.{shownBy, Tabled, Legible, Listed, Rising, Kept, newestIn, readsIn}
-use Rattle.read.specs.Look.{itemsIn, Levels, lowerIn, tablesIn}
+use Rattle.ldc.specs.Layout.{linkCount, linkAt, itemsIn, levelCount}
+use Rattle.book.proofs.Rows.{link-of, count-of, noLink}
+use Rattle.book.specs.Rows.{shownBy}
+use Rattle.read.specs.Shown.{Tabled, Legible, Listed, Rising, Kept, newestIn, readsIn}
+use Rattle.read.specs.Look.{Levels, lowerIn, tablesIn}
 use Rattle.read.proofs.Pieces.{bytes-shown, links-shown, length-fits, row-good, row-threshold, row-eight, level-items}
 
 -- Beyond the last card there are no links.
@@ -93,20 +94,16 @@ module _ (m : Lent) (k : Kept m) where
         }
 
     -- The items of a level's list name tables.
-    items : (n : ℕ) → n < 4 → level (storeOf m) n ≡ itemsIn (length (m .cards)) (m .lists) (m .head) n
-    unfolding listLength
-    items n h = level-items m k n h ∙ rw (sizes m (k .sizes) .cards)
-
-    listed : (n : ℕ) → n < 4 → Listed (m .area) (itemsIn (length (m .cards)) (m .lists) (m .head) n)
+    listed : (n : ℕ) → n < levelCount → Listed (m .area) (itemsIn (length (m .cards)) (m .lists) (m .head) n)
     listed n h i hi =
         let ps = itemsIn (length (m .cards)) (m .lists) (m .head) n in
         let p : ℕ = getD ps i 0 in
-        let member : List·Memᴰ p (level (storeOf m) n) = rw (items n h) (mem-getD ps i 0 hi) in
+        let member : List·Memᴰ p (level (storeOf m) n) = rw (level-items m k n h) (mem-getD ps i 0 hi) in
         tabled p (live-not-free (card (storeOf m) p) (listed-live (storeOf m) sound-kept n p member))
 
     linked : (p i : ℕ) → p < length (m .cards) → i < linkCount (getD (m .cards) p []) → Tabled (m .area) (linkAt (getD (m .cards) p []) i .place)
     linked p i hp hi =
-        let d : Link = record { place = 0; low = 0; high = 0 } in
+        let d : Link = noLink in
         let n = count-of (getD (m .cards) p []) (row-good m k p hp) (row-eight m k p hp) in
         let here : getD (links (storeOf m) p) i d ≡ linkAt (getD (m .cards) p []) i =
         rw (links-shown m p) (link-of (getD (m .cards) p []) i d (omega arith)) in
@@ -133,7 +130,7 @@ module _ (m : Lent) (k : Kept m) where
           rises =
               spansRise-same (storeOf m) (shownBy (m .area) (m .cards)) (itemsIn (length (m .cards)) (m .lists) (m .head) (suc n))
               (λ p x. (same-links m p, same-bytes m p))
-              ∙ rw (← (items (suc n) (omega arith))) (sound-kept .rising n);
+              ∙ rw (← (level-items m k (suc n) (omega arith))) (sound-kept .rising n);
         }
 
     pub levels-kept : Levels (m .area) (m .cards) (m .lists) (m .head)
@@ -142,25 +139,25 @@ module _ (m : Lent) (k : Kept m) where
         record {
           legible = legible;
           sized = rw (z .cards) (z .lists);
-          lengths = λ n h. rw (z .cards) (unfold listLength in length-fits m k n h);
+          lengths = λ n h. rw (z .cards) (length-fits m k n h);
           newest = listed 0 (omega arith);
           rising = rising;
         }
 
     -- ---- the read order
 
-    newest-same : (ps : List ℕ) → flat (map (table (storeOf m)) ps) ≡ flat (map (λ p. entries (placeAt (p * placeSize) (m .area))) ps)
+    newest-same : (ps : List ℕ) → flat (map (table (storeOf m)) ps) ≡ flat (map (λ p. entries (placeOf (m .area) p)) ps)
     unfolding table
     newest-same ps =
         elim ps [ [] ↦ refl | p ∷ (qs → ih) ↦ rw (bytes-shown m (sizes m (k .sizes) .area) p, ih) ]
 
-    lower-same : (n : ℕ) → n < 4
+    lower-same : (n : ℕ) → n < levelCount
         → flat (flat (map (sources (storeOf m)) (level (storeOf m) n))) ≡ readsIn (shownBy (m .area) (m .cards)) (itemsIn (length (m .cards)) (m .lists) (m .head) n)
     lower-same n h =
         reads-flat (storeOf m) (level (storeOf m) n)
         ∙ sym (reads-same (storeOf m) (shownBy (m .area) (m .cards)) (level (storeOf m) n) (λ p x. same-sources m p))
         ∙ sym (reads-flat (shownBy (m .area) (m .cards)) (level (storeOf m) n))
-        ∙ rw (items n h)
+        ∙ rw (level-items m k n h)
 
     pub order-read : flat (readOrder (storeOf m)) ≡ entries (m .memory) ++ tablesIn (m .area) (m .cards) (m .lists) (m .head)
     unfolding readOrder tablesIn lowerIn
@@ -172,7 +169,7 @@ module _ (m : Lent) (k : Kept m) where
         let d : List (List Entry) = flat (map (sources s) (level s 3)) in
         let held : s .memory ≡ entries (m .memory) = unfold storeOf in refl in
         let upper : flat z ≡ newestIn (m .area) (itemsIn (length (m .cards)) (m .lists) (m .head) 0) =
-        newest-same (reverse (level s 0)) ∙ ap (λ (ps : List ℕ). newestIn (m .area) ps) (items 0 (omega arith)) in
+        newest-same (reverse (level s 0)) ∙ ap (λ (ps : List ℕ). newestIn (m .area) ps) (level-items m k 0 (omega arith)) in
         rw (
           flat-append z (b ++ (c ++ d)),
           flat-append b (c ++ d),

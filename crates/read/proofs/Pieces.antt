@@ -1,31 +1,31 @@
 -- The pieces of lent memory that is kept, and of the store that it shows: lists, rows and places.
-use Prim.Native.Nat.{ℕ, zero, suc, _+_, _*_, _≤_, _<_}
-use mathlib.Core.Path.{_≡_, refl, _∙_, ap}
+use Prim.Native.Nat.{ℕ, zero, suc, _*_, _≤_, _<_}
+use mathlib.Core.Path.{_≡_, refl, _∙_}
 use mathlib.Core.Bool.{true}
-use mathlib.Core.List.{List, [], _∷_, map}
+use mathlib.Core.List.{[], map}
 use native.Mathlib.Omega.{arith}
-use native.Mathlib.Nat.{suc-mul, mul-le-mul-right}
 use borrow.Author.Tests.{leb-true, ltb-true, ltb-false}
 use lib.Dec.{leb, ltb}
-use lib.ListN.{length, getD, take, drop, length-map, length-drop, List·getD-eq-default, drop-of-length-le}
-use lib.Seq.{length-take-le}
+use lib.ListN.{length, getD, drop, length-map, List·getD-eq-default, drop-of-length-le}
 use Rattle.table.specs.Limits.{placeSize}
-use Rattle.table.specs.Table.{placeAt}
+use Rattle.table.specs.Table.{placeOf}
 use Rattle.table.proofs.Tests.{and-parts, cases}
 use Rattle.ldc.specs.Lists.{all}
 use Rattle.ldc.specs.Store.{free, card, links, linksOf, bytesAt, level}
-use Rattle.ldc.specs.Lent.{Lent, placesIn, stateOf, linkCount, listLength, listPart, levelOf, cardOf, storeOf, rowGood, numbersGood, countsGood}
+use Rattle.ldc.specs.Lent.{Lent, placesIn, listLength, levelOf, storeOf, rowGood, numbersGood, countsGood}
 use Rattle.ldc.proofs.Basics.ListLaws.{all-at, below-at, mem-getD, getD-map, parts, length-parts, getD-parts}
 use Rattle.ldc.proofs.Lent.Round.{chop-parts}
 use Rattle.ldc.proofs.Lent.Rules.{Unbroken, unbroken}
 use Rattle.ldc.proofs.Lent.Shows.{sizes}
 use Rattle.ldc.proofs.Stores.SoundRules.{threshold-eight}
+use Rattle.ldc.specs.Layout.{linkLimit, stateOf, linkCount, cardOf, itemsIn, levelCount, thresholdIn}
+use Rattle.read.proofs.Walks.{items-long}
 use Rattle.read.specs.Shown.{Kept}
 
 -- ---- places
 
 -- The bytes of a place are its part of the area.
-pub bytes-shown : (m : Lent) → length (m .area) ≡ placesIn (m .area) * placeSize → (p : ℕ) → bytesAt (storeOf m) p ≡ placeAt (p * placeSize) (m .area)
+pub bytes-shown : (m : Lent) → length (m .area) ≡ placesIn (m .area) * placeSize → (p : ℕ) → bytesAt (storeOf m) p ≡ placeOf (m .area) p
 unfolding bytesAt storeOf
 bytes-shown m h p =
     rw (chop-parts (placesIn (m .area)) (m .area))
@@ -49,52 +49,40 @@ links-shown m p =
 
 -- ---- lists and rows of kept memory
 
--- The front of a front.
-take-front : (n k : ℕ) (xs : List ℕ) → n ≤ k → take n (take k xs) ≡ take n xs
-take-front zero k xs h = refl
-take-front (suc n) zero xs h = absurd (omega arith)
-take-front (suc n) (suc k) [] h = refl
-take-front (suc n) (suc k) (x ∷ xs) h = ap (λ ys. x ∷ ys) (take-front n k xs (omega arith))
-
-add-one-le : (n : ℕ) → n < 4 → suc n ≤ 4
-add-one-le n h = h
+-- A level's list is the items in use of its part of the lists.
+level-part : (m : Lent) (n : ℕ) → n < levelCount → level (storeOf m) n ≡ itemsIn (placesIn (m .area)) (m .lists) (m .head) n
+unfolding level storeOf levelOf
+level-part m zero h = refl
+level-part m (suc zero) h = refl
+level-part m (suc (suc zero)) h = refl
+level-part m (suc (suc (suc zero))) h = refl
+level-part m (suc (suc (suc (suc n)))) h = absurd (omega arith)
 
 module _ (m : Lent) (k : Kept m) where
   whole : Unbroken m
   whole = unbroken m (k .unbroken)
 
-  pub length-fits : (n : ℕ) → n < 4 → listLength m n ≤ placesIn (m .area)
+  pub length-fits : (n : ℕ) → n < levelCount → listLength m n ≤ placesIn (m .area)
   unfolding numbersGood
-  length-fits n h = leb-true _ _ (below-at 4 (λ i. leb (listLength m i) (placesIn (m .area)))
+  length-fits n h = leb-true _ _ (below-at levelCount (λ i. leb (listLength m i) (placesIn (m .area)))
       (and-parts (all rowGood (m .cards)) _ (whole .numbers) .1) n h)
 
   pub row-good : (p : ℕ) → p < length (m .cards) → rowGood (getD (m .cards) p []) ≡ true
   unfolding numbersGood
   row-good p h = all-at rowGood (m .cards) (and-parts (all rowGood (m .cards)) _ (whole .numbers) .0) (mem-getD (m .cards) p [] h)
 
-  pub row-threshold : (p : ℕ) → p < length (m .cards) → linkCount (getD (m .cards) p []) ≤ getD (m .head) 0 0
+  pub row-threshold : (p : ℕ) → p < length (m .cards) → linkCount (getD (m .cards) p []) ≤ thresholdIn (m .head)
   unfolding countsGood
-  row-threshold p h = leb-true _ _ (all-at (λ row. leb (linkCount row) (getD (m .head) 0 0)) (m .cards) (whole .counts) (mem-getD (m .cards) p [] h))
+  row-threshold p h = leb-true _ _ (all-at (λ row. leb (linkCount row) (thresholdIn (m .head))) (m .cards) (whole .counts) (mem-getD (m .cards) p [] h))
 
-  pub row-eight : (p : ℕ) → p < length (m .cards) → linkCount (getD (m .cards) p []) ≤ 8
+  pub row-eight : (p : ℕ) → p < length (m .cards) → linkCount (getD (m .cards) p []) ≤ linkLimit
   unfolding storeOf
   row-eight p h = omega (arith, row-threshold p h, threshold-eight (storeOf m) (whole .store .a))
 
-  -- A level's list is so many items of its part of the lists.
-  pub level-items : (n : ℕ) → n < 4 → level (storeOf m) n ≡ take (listLength m n) (drop (n * placesIn (m .area)) (m .lists))
-  unfolding level storeOf levelOf listPart
-  level-items zero h = take-front (listLength m 0) (placesIn (m .area)) (drop (0 * placesIn (m .area)) (m .lists)) (length-fits 0 h)
-  level-items (suc zero) h = take-front (listLength m 1) (placesIn (m .area)) (drop (1 * placesIn (m .area)) (m .lists)) (length-fits 1 h)
-  level-items (suc (suc zero)) h = take-front (listLength m 2) (placesIn (m .area)) (drop (2 * placesIn (m .area)) (m .lists)) (length-fits 2 h)
-  level-items (suc (suc (suc zero))) h = take-front (listLength m 3) (placesIn (m .area)) (drop (3 * placesIn (m .area)) (m .lists)) (length-fits 3 h)
-  level-items (suc (suc (suc (suc n)))) h = absurd (omega arith)
+  pub level-items : (n : ℕ) → n < levelCount → level (storeOf m) n ≡ itemsIn (length (m .cards)) (m .lists) (m .head) n
+  level-items n h = level-part m n h ∙ rw (sizes m (k .sizes) .cards)
 
-  -- The part lies within the lists.
-  pub items-within : (n : ℕ) → n < 4 → n * placesIn (m .area) + listLength m n ≤ length (m .lists)
-  items-within n h =
-      omega (arith, length-fits n h, sizes m (k .sizes) .lists, mul-le-mul-right (placesIn (m .area)) (add-one-le n h), suc-mul n (placesIn (m .area)))
-
-  pub level-length : (n : ℕ) → n < 4 → length (level (storeOf m) n) ≡ listLength m n
+  pub level-length : (n : ℕ) → n < levelCount → length (level (storeOf m) n) ≡ listLength m n
   level-length n h =
-      rw (level-items n h)
-      (length-take-le (listLength m n) (drop (n * placesIn (m .area)) (m .lists)) (rw length-drop (omega (arith, items-within n h))))
+      let z = sizes m (k .sizes) in
+      rw (level-items n h) (items-long (length (m .cards)) (m .lists) (m .head) n h (rw (z .cards) (z .lists)) (rw (z .cards) (length-fits n h)))

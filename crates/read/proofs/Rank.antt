@@ -1,6 +1,6 @@
 -- The search of a level: spans rise, so the tables whose spans end below a key stand in front, and a key is read of the first of the
 -- others or of none.
-use Prim.Native.Nat.{ℕ, zero, suc, _*_, _-_, _≤_, _<_, _^_}
+use Prim.Native.Nat.{ℕ, zero, suc, _-_, _≤_, _<_, _^_}
 use mathlib.Core.Path.{_≡_, refl, sym, _∙_, ap}
 use mathlib.Core.List.{List, [], _∷_, map, reverse, append-nil, List·Memᴰ, List·Memᴰ·head, List·Memᴰ·tail}
 use mathlib.Core.Logic.{_⊎_, inl, inr}
@@ -9,9 +9,8 @@ use native.Mathlib.Omega.{arith}
 use borrow.Author.Tests.{ltb-true, ltb-false, lt-ltb, le-ltb}
 use lib.Dec.{ltb}
 use lib.ListN.{length, getD}
-use Rattle.number.specs.Number.{Bytes}
-use Rattle.table.specs.Limits.{placeSize}
-use Rattle.table.specs.Table.{entries, placeAt}
+use Rattle.coding.specs.Number.{Bytes}
+use Rattle.table.specs.Table.{entries, placeOf}
 use Rattle.table.specs.Search.{find, leastKey, greatestKey}
 use Rattle.table.proofs.Tests.{cases}
 use Rattle.ldc.specs.Lists.{flat}
@@ -19,10 +18,12 @@ use Rattle.ldc.specs.Store.{Store, links, table, slice, sources, spanStart, spa
 use Rattle.ldc.proofs.Entries.Finds.{orElse, find-append}
 use Rattle.ldc.proofs.Basics.ListLaws.{getD-mem}
 use Rattle.ldc.proofs.Stores.Order.{orElse-none}
-use Rattle.ldc.proofs.Stores.Spans.{Readable, Spans, leastEnd-own, greatestEnd-own, least-greatest, rise-all, reads, reads-flat, reads-below, read-outside, flat-append}
-use Rattle.read.specs.Shown.{shownBy, Legible, Rising, readsIn}
+use Rattle.ldc.proofs.Stores.Spans.{Readable, leastEnd-own, greatestEnd-own, least-greatest, rise-all, reads, reads-flat, reads-below, read-outside, flat-append}
+use Rattle.ldc.specs.Facts.{Spans}
+use Rattle.read.specs.Shown.{Legible, Rising, readsIn}
 use Rattle.read.specs.Level.{rank}
 use Rattle.read.proofs.Shows.{table-shown, readable}
+use Rattle.book.specs.Rows.{shownBy}
 
 -- ---- the rank
 
@@ -153,8 +154,8 @@ module _ (area : List ℕ) (cards : List (List ℕ)) (items : List ℕ) (b : Byt
   spans = rise-all (shownBy area cards) items all-readable (r .rises)
 
   pub least-within : (j : ℕ) → j < length items
-      → (spanStart (shownBy area cards) (getD items j 0) ≤ leastKey (entries (placeAt (getD items j 0 * placeSize) area)))
-      × (leastKey (entries (placeAt (getD items j 0 * placeSize) area)) ≤ spanEnd (shownBy area cards) (getD items j 0))
+      → (spanStart (shownBy area cards) (getD items j 0) ≤ leastKey (entries (placeOf area (getD items j 0))))
+      × (leastKey (entries (placeOf area (getD items j 0))) ≤ spanEnd (shownBy area cards) (getD items j 0))
   least-within j h =
       rw (sym (table-shown area cards g (getD items j 0)))
       (least-spanned (shownBy area cards) (getD items j 0) (readable area cards g (getD items j 0) b (r .listed j h)))

@@ -7,40 +7,41 @@ use native.Mathlib.Omega.{arith}
 use native.Mathlib.Numerals.{add-one}
 use lib.ListN.{length, getD, take, drop}
 use lib.Seq.{drop-cons}
-use Rattle.number.specs.Number.{Bytes}
-use Rattle.number.proofs.Laws.{bytes-take, bytes-drop}
-use Rattle.number.proofs.Sets.{length-part}
+use Rattle.coding.specs.Number.{Bytes}
+use Rattle.coding.proofs.NumberLaws.{bytes-take, bytes-drop}
+use Rattle.coding.proofs.Sets.{length-part}
 use Rattle.table.specs.Limits.{placeSize}
-use Rattle.table.specs.Table.{entries, placeAt, isTable, isMemory}
+use Rattle.table.specs.Table.{entries, isTable, isMemory, placeOf}
 use Rattle.table.specs.Valid.{Valid}
 use Rattle.table.proofs.Position.{table-memory, table-good}
 use Rattle.table.proofs.Encode.{shows-valid}
 use Rattle.table.proofs.Entries.{length-entries}
 use Rattle.ldc.specs.Store.{Link, table, links, slice, within, greatestEnd}
-use Rattle.ldc.specs.Lent.{placesIn, linkCount}
+use Rattle.ldc.specs.Lent.{placesIn}
 use Rattle.ldc.proofs.Stores.Spans.{Readable}
-use Rattle.book.specs.Row.{linkAt}
-use Rattle.book.specs.Made.{lent}
+use Rattle.ldc.specs.Layout.{linkCount, linkAt}
 use Rattle.book.proofs.Rows.{link-of, count-of}
-use Rattle.read.specs.Shown.{shownBy, Tabled, Legible}
+use Rattle.book.specs.Pieces.{lent}
+use Rattle.book.specs.Rows.{shownBy}
+use Rattle.read.specs.Shown.{Tabled, Legible}
 use Rattle.read.proofs.Pieces.{bytes-shown, links-shown}
 
 -- ---- one place
 
 -- The part of the area that the code takes.
-pub placed : (area : List ℕ) (p : ℕ) → take (p * placeSize + placeSize - p * placeSize) (drop (p * placeSize) area) ≡ placeAt (p * placeSize) area
+pub placed : (area : List ℕ) (p : ℕ) → take (p * placeSize + placeSize - p * placeSize) (drop (p * placeSize) area) ≡ placeOf area p
 placed area p = let e : p * placeSize + placeSize - p * placeSize ≡ placeSize = omega arith in rw e
 
-pub place-long : (area : List ℕ) (p : ℕ) → Tabled area p → length (placeAt (p * placeSize) area) ≡ placeSize
+pub place-long : (area : List ℕ) (p : ℕ) → Tabled area p → length (placeOf area p) ≡ placeSize
 place-long area p t = length-part area (p * placeSize) placeSize (t .within)
 
-pub place-memory : (area : List ℕ) (p : ℕ) → Tabled area p → isMemory (placeAt (p * placeSize) area) ≡ true
-place-memory area p t = table-memory (placeAt (p * placeSize) area) (t .good)
+pub place-memory : (area : List ℕ) (p : ℕ) → Tabled area p → isMemory (placeOf area p) ≡ true
+place-memory area p t = table-memory (placeOf area p) (t .good)
 
-pub place-valid : (area : List ℕ) (p : ℕ) → Bytes area → Tabled area p → Valid (entries (placeAt (p * placeSize) area))
+pub place-valid : (area : List ℕ) (p : ℕ) → Bytes area → Tabled area p → Valid (entries (placeOf area p))
 unfolding isTable
 place-valid area p b t =
-    shows-valid (placeAt (p * placeSize) area) (bytes-take placeSize (drop (p * placeSize) area) (bytes-drop (p * placeSize) area b)) (place-long area p t) 1 (t .good)
+    shows-valid (placeOf area p) (bytes-take placeSize (drop (p * placeSize) area) (bytes-drop (p * placeSize) area b)) (place-long area p t) 1 (t .good)
 
 -- ---- in a store that is shown
 
@@ -49,11 +50,11 @@ module _ (area : List ℕ) (cards : List (List ℕ)) (g : Legible area cards) wh
   unfolding placesIn
   whole = omega (arith, g .sized)
 
-  pub table-shown : (p : ℕ) → table (shownBy area cards) p ≡ entries (placeAt (p * placeSize) area)
+  pub table-shown : (p : ℕ) → table (shownBy area cards) p ≡ entries (placeOf area p)
   unfolding table
   table-shown p = ap entries (bytes-shown (lent area cards [] [] []) whole p)
 
-  pub slice-shown : (l : Link) → slice (shownBy area cards) l ≡ within (l .low) (l .high) (entries (placeAt (l .place * placeSize) area))
+  pub slice-shown : (l : Link) → slice (shownBy area cards) l ≡ within (l .low) (l .high) (entries (placeOf area (l .place)))
   unfolding slice
   slice-shown l = rw (table-shown (l .place))
 
@@ -65,7 +66,7 @@ module _ (area : List ℕ) (cards : List (List ℕ)) (g : Legible area cards) wh
   readable p b t =
       record {
         keys = rw (table-shown p) (place-valid area p b t .keys);
-        some = rw (table-shown p) (omega (arith, length-entries (placeAt (p * placeSize) area), table-good (placeAt (p * placeSize) area) (t .good) .enough));
+        some = rw (table-shown p) (omega (arith, length-entries (placeOf area p), table-good (placeOf area p) (t .good) .enough));
       }
 
   module _ (p : ℕ) (h : p < length cards) where

@@ -1,4 +1,4 @@
--- The search of a level below: which table a key is to be sought in.
+-- The search of a level below: how many tables a key has passed.
 use Prim.Native.Nat.{ℕ, suc}
 use mathlib.Core.List.{List, [], _∷_}
 use mathlib.Core.Bool.{cond}

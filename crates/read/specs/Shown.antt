@@ -6,28 +6,25 @@ use mathlib.Core.List.{List, [], map, reverse}
 use lib.ListN.{length, getD}
 use Rattle.table.specs.Limits.{placeSize}
 use Rattle.table.specs.Entry.{Entry}
-use Rattle.table.specs.Table.{entries, placeAt, isTable}
+use Rattle.table.specs.Table.{entries, isTable, placeOf}
 use Rattle.ldc.specs.Lists.{flat}
-use Rattle.ldc.specs.Store.{Store, sources}
-use Rattle.ldc.specs.Lent.{Lent, storeOf, linkCount, rowGood, sizesGood, broken}
+use Rattle.ldc.specs.Store.{Store, links, slice, sources}
+use Rattle.ldc.specs.Lent.{Lent, rowGood, sizesGood, broken}
 use Rattle.ldc.specs.Rules.{spansRise}
-use Rattle.book.specs.Row.{linkAt}
-use Rattle.book.specs.Made.{lent}
-
--- Tables, links and spans of a store depend on area and cards alone.
-abbrev pub shownBy : (area : List ℕ) → (cards : List (List ℕ)) → Store
-shownBy area cards = storeOf (lent area cards [] [] [])
+use Rattle.ldc.specs.Layout.{mostPlaces, linkLimit, linkCount, linkAt}
+use Rattle.book.specs.Pieces.{Words, Rows}
+use Rattle.book.specs.Rows.{shownBy, Wide}
 
 -- A place within the area that holds a table.
 pub record Tabled (area : List ℕ) (p : ℕ) : Type 0 where
   pub within : p * placeSize + placeSize ≤ length area
-  pub good : isTable (placeAt (p * placeSize) area) ≡ true
+  pub good : isTable (placeOf area p) ≡ true
 
--- As many cards as places; rows have at most eight links, and these name tables.
+-- As many cards as places; rows have no more links than there is room for, and these name tables.
 pub record Legible (area : List ℕ) (cards : List (List ℕ)) : Type 0 where
   pub sized : length area ≡ length cards * placeSize
-  pub few : length cards ≤ 4096
-  pub counted : (p : ℕ) → p < length cards → linkCount (getD cards p []) ≤ 8
+  pub few : length cards ≤ mostPlaces
+  pub counted : (p : ℕ) → p < length cards → linkCount (getD cards p []) ≤ linkLimit
   pub rowed : (p : ℕ) → p < length cards → rowGood (getD cards p []) ≡ true
   pub linked : (p i : ℕ) → p < length cards → i < linkCount (getD cards p []) → Tabled area (linkAt (getD cards p []) i .place)
 
@@ -45,10 +42,33 @@ pub record Kept (m : Lent) : Type 0 where
   pub sizes : sizesGood m ≡ true
   pub unbroken : broken m ≡ []
 
+-- Kept memory whose pieces are as long as their types have it: what a request that reads may assume, and one that writes.
+pub record Readable (m : Lent) : Type 0 where
+  pub memory : length (m .memory) ≡ placeSize
+  pub kept : Kept m
+
+pub record Writable (m : Lent) : Type 0 where
+  pub wide : Wide (m .cards)
+  pub memory : length (m .memory) ≡ placeSize
+  pub kept : Kept m
+
 -- The entries of some places' tables, the last of them first.
 abbrev pub newestIn : (area places : List ℕ) → List Entry
-newestIn area ps = flat (map (λ p. entries (placeAt (p * placeSize) area)) (reverse ps))
+newestIn area ps = flat (map (λ p. entries (placeOf area p)) (reverse ps))
 
 -- All that is read of some tables of a level below.
 abbrev pub readsIn : Store → (places : List ℕ) → List Entry
 readsIn s ps = flat (flat (map (sources s) ps))
+
+-- The slices of a table's links, newest first.
+abbrev pub linkedEntries : Store → (p : ℕ) → List Entry
+linkedEntries s p = flat (map (slice s) (reverse (links s p)))
+
+-- ---- the same over the parameters of a call, at its entry
+
+-- The store that area and cards show, and the entries of a place's table.
+abbrev pub shownIn : (area : Words) → (cards : Rows) → Store
+shownIn area cards = shownBy (area .entry .now) (cards .entry .now)
+
+abbrev pub tableIn : (area : Words) → (p : ℕ) → List Entry
+tableIn area p = entries (placeOf (area .entry .now) p)

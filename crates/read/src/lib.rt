@@ -1,5 +1,7 @@
-// Reading a sound store: what the lent pieces must be like (specs/Shown), what is found in them, and the laws of both.
+// Reading a sound store: one place as a table, the spans of a level, and what a search answers. specs/Shown says what the lent pieces must
+// be like.
 //
-// The crates `block`, `hit`, `levels` and `look` search it, `reply` and `report` answer to the byte. Nothing there changes the store.
-pub mod hit;
-pub mod look;
+// `read_get` looks one key up, `read_seek` and `read_iterator` go through keys in order. Nothing here changes the store.
+pub mod found;
+pub mod level;
+pub mod place;

@@ -9,15 +9,16 @@ use lib.Dec.{leb, eqb}
 use lib.ListN.{length}
 use Rattle.table.specs.Entry.{entryOf, entryForm}
 use Rattle.table.proofs.Tests.{and-parts}
+use Rattle.table.specs.Limits.{valueLimit, entryLimit, entryHead}
 use Rattle.ldc.specs.Store.{Store}
-use Rattle.ldc.specs.Request.{known, bodyGood, keyIn, highIn, valueIn, only}
+use Rattle.ldc.specs.Request.{known, bodyGood, keyIn, highIn, valueIn, only, keySize}
 use Rattle.ldc.specs.Memtable.{servePut}
 use Rattle.ldc.specs.Place.{serveFlush}
 use Rattle.ldc.specs.Read.{serveLookUp, serveScan, serveReport}
 use Rattle.ldc.specs.Steps.{serveTidy}
 use Rattle.ldc.specs.Serve.{serveKind, serve}
 use Rattle.ldc.proofs.Basics.Cases.{cases}
-use Rattle.steps.specs.Turn.{request}
+use Rattle.serve_write.specs.Turn.{request}
 
 -- The test of the code before it looks at the kind.
 abbrev pub good : (kind len : ℕ) → Bool
@@ -55,8 +56,8 @@ module _ (kind : ℕ) (body : List ℕ) where
       let f = fits (omega arith) (omega arith) g in
       let p = and-parts (leb 8 (length body)) _ (rw e at f) in
       let low = leb-true 8 (length body) (p .0) in
-      let high = leb-true (length body) 56 (p .1) in
-      (low, rw (e, le-leb 12 (4 + length body) (omega arith), le-leb (4 + length body) 60 (omega arith)))
+      let high = leb-true (length body) (keySize + valueLimit) (p .1) in
+      (low, rw (e, le-leb entryHead (4 + length body) (omega arith), le-leb (4 + length body) entryLimit (omega arith)))
 
   form-2 : kind ≡ 2 → good kind (length body) ≡ true → (8 ≤ length body) × (entryForm kind (4 + length body) ≡ true)
   unfolding bodyGood entryForm

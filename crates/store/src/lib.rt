@@ -4,46 +4,46 @@
 ghost use mathlib.Core.Path.{_≡_};
 ghost use lib.ListN.{getD};
 ghost use Rattle.ldc.specs.Run.{make, run, LetterOf};
-ghost use Rattle.book.specs.Made.{lent, made};
-ghost use Rattle.sound.specs.Answer.{Answers};
-ghost use Rattle.serving.specs.Ran.{ran};
+ghost use Rattle.book.specs.Made.{made};
+ghost use Rattle.book.specs.Pieces.{after, before};
+ghost use Rattle.check_store.specs.Answer.{Answers};
+ghost use Rattle.serve_list.specs.Ran.{ran};
+use book::head::HeadWords;
+use book::row::Row;
+use table::limits::PlaceBytes;
 
 // Makes a new store in any lent memory: 0, or 1 for sizes, or 2 for a threshold outside 1 to 8; refused, nothing is changed.
 #[no_mangle]
 pub extern "C" fn zilgwern_make(
     area: &mut [u8],
-    cards: &mut [[u64; 26]],
+    cards: &mut [Row],
     lists: &mut [u16],
-    head: &mut [u64; 10],
-    memory: &mut [u8; 1024],
+    head: &mut HeadWords,
+    memory: &mut PlaceBytes,
     threshold: u64,
 ) -> u64
     ensures { λ r. ⌜
-        made r (lent (now (area .exit)) (now (cards .exit)) (now (lists .exit)) (now (head .exit)) (now (memory .exit)))
-        ≡ make (lent (now (area .entry)) (now (cards .entry)) (now (lists .entry)) (now (head .entry)) (now (memory .entry))) threshold
+        made r (after area cards lists head memory) ≡ make (before area cards lists head memory) threshold
         ⌝ }
 {
-    make::make(area, cards, lists, head, memory, threshold)
+    store_make::make(area, cards, lists, head, memory, threshold)
 }
 
 // Checks whatever is lent: 0 for a sound store, 1 for sizes, 5 for a broken rule, whose letter is written in ASCII (else 0).
 #[no_mangle]
 pub extern "C" fn zilgwern_check(
     area: &[u8],
-    cards: &[[u64; 26]],
+    cards: &[Row],
     lists: &[u16],
-    head: &[u64; 10],
-    memory: &[u8; 1024],
+    head: &HeadWords,
+    memory: &PlaceBytes,
     letter: &mut u64,
 ) -> u64
     ensures { λ r. ⌜
-        Answers
-        (lent (now (area .entry)) (now (cards .entry)) (now (lists .entry)) (now (head .entry)) (now (memory .entry)))
-        r
-        (now (letter .exit))
+        Answers (before area cards lists head memory) r (now (letter .exit))
         ⌝ }
 {
-    let checked = sound::check(area, cards, lists, head, memory);
+    let checked = check_store::check(area, cards, lists, head, memory);
     *letter = checked.letter;
     checked.number
 }
@@ -53,22 +53,22 @@ pub extern "C" fn zilgwern_check(
 #[no_mangle]
 pub extern "C" fn zilgwern_run(
     area: &mut [u8],
-    cards: &mut [[u64; 26]],
+    cards: &mut [Row],
     lists: &mut [u16],
-    head: &mut [u64; 10],
-    memory: &mut [u8; 1024],
+    head: &mut HeadWords,
+    memory: &mut PlaceBytes,
     list: &[u8],
     answer: &mut [u8],
     outcome: &mut [u64; 3],
 ) -> u64
     ensures { λ r. ⌜
         (ran r (getD (now (outcome .exit)) 1 0) (getD (now (outcome .exit)) 2 0)
-        (lent (now (area .exit)) (now (cards .exit)) (now (lists .exit)) (now (head .exit)) (now (memory .exit))) (now (answer .exit))
-        ≡ run (lent (now (area .entry)) (now (cards .entry)) (now (lists .entry)) (now (head .entry)) (now (memory .entry))) (now (list .entry)) (now (answer .entry)))
-        × LetterOf (lent (now (area .entry)) (now (cards .entry)) (now (lists .entry)) (now (head .entry)) (now (memory .entry))) r (getD (now (outcome .exit)) 0 0)
+        (after area cards lists head memory) (now (answer .exit))
+        ≡ run (before area cards lists head memory) (now (list .entry)) (now (answer .entry)))
+        × LetterOf (before area cards lists head memory) r (getD (now (outcome .exit)) 0 0)
         ⌝ }
 {
-    let done = run::run(area, cards, lists, head, memory, list, answer);
+    let done = store_run::run(area, cards, lists, head, memory, list, answer);
     *outcome = [done.letter, done.served as u64, done.written as u64];
     done.number
 }

@@ -7,9 +7,9 @@ use mathlib.Core.List.{List, [], _∷_, _++_, append-assoc, append-nil}
 use native.Mathlib.Omega.{arith}
 use lib.ListN.{length, length-append}
 use lib.Seq.{sets, length-sets}
-use Rattle.number.specs.Number.{bytesOf, Bytes}
-use Rattle.number.proofs.Laws.{length-bytesOf}
-use Rattle.number.proofs.Sets.{sets-mid}
+use Rattle.coding.specs.Number.{bytesOf, Bytes}
+use Rattle.coding.proofs.NumberLaws.{length-bytesOf}
+use Rattle.coding.proofs.Sets.{sets-mid}
 use Rattle.table.specs.Limits.{valueLimit, entryHead, tableHead, tableLimit, placeSize}
 use Rattle.table.specs.Entry.{Entry, valueBytes, entryLength, entryBytes, entryForm, lengthAt}
 use Rattle.table.specs.Table.{zeros, countOf, entriesBytes, tableLength, tableBytes, isMemory, appended, Appends}

@@ -10,8 +10,8 @@ use borrow.Author.Tests.{le-leb, eq-eqb}
 use lib.Dec.{leb}
 use lib.ListN.{length, take, drop, length-append}
 use lib.Seq.{drop-drop, drop-append-seam, take-at}
-use Rattle.number.specs.Number.{numberAt, bytesOf, Bytes}
-use Rattle.number.proofs.Laws.{numberAt-there, length-bytesOf, bytes-bytesOf, bytes-append}
+use Rattle.coding.specs.Number.{numberAt, bytesOf, Bytes}
+use Rattle.coding.proofs.NumberLaws.{numberAt-there, length-bytesOf, bytes-bytesOf, bytes-append}
 use Rattle.table.specs.Limits.{valueLimit, entryHead, entryLimit, tableHead, tableLimit, placeSize}
 use Rattle.table.specs.Entry.{Entry, kindOf, valueBytes, entryLength, entryBytes, entryOf, entryAt, entryForm, lengthAt, kindAt, keyAt}
 use Rattle.table.specs.Table.{zeros, countOf, entriesBytes, tableLength, tableBytes, entriesAt, entries, entriesGood, tableGood, isTable, isMemory}
@@ -76,7 +76,7 @@ shown-entry s at e r hv hk h =
     kind-small (some v) = omega arith
     kind-small none = omega arith
 
--- Entries' bytes have at most 60 for each.
+-- Entries' bytes have at most `entryLimit` for each.
 pub entries-short : (es : List Entry) → Values es → length (entriesBytes es) ≤ entryLimit * length es
 unfolding entriesBytes entryLength
 entries-short [] vs = omega arith

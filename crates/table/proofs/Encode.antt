@@ -8,9 +8,9 @@ use native.Mathlib.Omega.{arith}
 use borrow.Author.Tests.{eqb-true}
 use lib.ListN.{length, take, drop, length-append, length-drop, take-append-drop}
 use lib.Seq.{drop-drop}
-use Rattle.number.specs.Number.{Bytes}
-use Rattle.number.proofs.Laws.{number-back, numberAt-bound, bytes-take, bytes-drop}
-use Rattle.number.proofs.Sets.{length-part}
+use Rattle.coding.specs.Number.{Bytes}
+use Rattle.coding.proofs.NumberLaws.{number-back, numberAt-bound, bytes-take, bytes-drop}
+use Rattle.coding.proofs.Sets.{length-part}
 use Rattle.table.specs.Limits.{valueLimit, entryHead, tableHead, placeSize}
 use Rattle.table.specs.Entry.{valueBytes, entryBytes, entryAt, entryForm, lengthAt, kindAt, keyAt}
 use Rattle.table.specs.Table.{zeros, countOf, entriesBytes, tableLength, tableBytes, entriesAt, entries, entriesGood, tableGood}

@@ -9,7 +9,7 @@ use native.Mathlib.Omega.{arith}
 use borrow.Author.Tests.{leb-true, eqb-true}
 use lib.Dec.{leb, eqb}
 use lib.ListN.{length}
-use Rattle.number.specs.Number.{bytesOf}
+use Rattle.coding.specs.Number.{bytesOf}
 use Rattle.table.specs.Limits.{entryHead, entryLimit}
 use Rattle.table.specs.Entry.{kindOf, valueBytes, entryLength, entryBytes, entryOf, entryForm}
 use Rattle.table.proofs.Tests.{and-parts, or-parts}

@@ -1,17 +1,17 @@
 -- Searching bytes finds what searching the entries finds. `findAt` and `seekAt` are one search, `firstAt`, with a test each, and so are
 -- `find` and `firstFrom`; each law is proved for any test, by induction on the number of entries.
-use Prim.Native.Nat.{ℕ, zero, suc, _+_, _≤_, _<_}
+use Prim.Native.Nat.{ℕ, zero, suc, _+_, _≤_, _<_, compare·suc-suc}
 use mathlib.Core.Path.{_≡_, refl, sym, _∙_}
 use mathlib.Core.Bool.{Bool, true, false, cond}
 use mathlib.Core.List.{List, [], _∷_}
 use mathlib.Core.Option.{Option, some, none}
 use native.Mathlib.Omega.{arith}
-use borrow.Author.Tests.{leb-true, leb-false, eqb-true, ne-eqb}
-use lib.Dec.{leb, eqb}
+use borrow.Author.Tests.{leb-true, leb-false, eqb-true, ne-eqb, lt-ltb}
+use lib.Dec.{leb, ltb, eqb}
 use Rattle.table.specs.Limits.{tableHead}
 use Rattle.table.specs.Entry.{Entry, lengthAt, keyAt, entryAt, entryOf}
 use Rattle.table.specs.Table.{countOf, entries, entriesAt, entriesGood, isMemory}
-use Rattle.table.specs.Search.{find, firstFrom, positionAt, positionIn, findAt, findIn, seekAt, seekIn, shown}
+use Rattle.table.specs.Search.{find, firstFrom, countBelow, positionAt, positionIn, findAt, findIn, seekAt, seekIn, shown}
 use Rattle.table.specs.declared.search.Found.{Found}
 use Rattle.table.specs.declared.search.Found.the-variants.{At, Nothing}
 use Rattle.table.proofs.Tests.{cases}
@@ -129,3 +129,21 @@ find-exactly (suc n) s at least end k h =
 pub find-exact : (s : List ℕ) (k : ℕ) → isMemory s ≡ true → findIn s k ≡ exact s k (seekIn s k)
 unfolding findIn seekIn
 find-exact s k m = find-exactly (countOf s) s tableHead 0 (lengthAt s 0) k (memory-good s m .good)
+
+-- ---- how many are passed
+
+below-less : (a n : ℕ) → ltb (suc a) (suc n) ≡ ltb a n
+below-less a n = rw (compare·suc-suc (suc a) n)
+
+-- The first entry from a key on stands behind those below it, if any does.
+seekAt-below : (n : ℕ) (s : List ℕ) (at k : ℕ)
+    → seekAt n s at k ≡ cond (ltb (countBelow k (entriesAt n s at)) n) (At (positionAt (countBelow k (entriesAt n s at)) s at)) Nothing
+unfolding seekAt entriesAt countBelow positionAt
+seekAt-below zero s at k = refl
+seekAt-below (suc n) s at k =
+    rw (entryAt-key s at) (cases (leb k (keyAt s at)) (λ q. rw (q, lt-ltb 0 (suc n) (omega arith))) (λ q. rw (q, below-less (countBelow k (entriesAt n s (at + lengthAt s at))) n) (seekAt-below n s (at + lengthAt s at) k)))
+
+pub seek-below : (s : List ℕ) (k : ℕ)
+    → seekIn s k ≡ cond (ltb (countBelow k (entries s)) (countOf s)) (At (positionIn (countBelow k (entries s)) s)) Nothing
+unfolding seekIn entries positionIn
+seek-below s k = seekAt-below (countOf s) s tableHead k

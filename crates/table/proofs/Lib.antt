@@ -12,6 +12,8 @@
 --   Decode     decode after encode
 --   Encode     encode after decode
 --   Append     appending to the bytes of a table
+--   Taken      entries taken from where they stand
+--   Words      bytes that are looked at together
 pub mod Tests
 pub mod Zeros
 pub mod Form
@@ -25,3 +27,5 @@ pub mod Writes
 pub mod Decode
 pub mod Encode
 pub mod Append
+pub mod Taken
+pub mod Words

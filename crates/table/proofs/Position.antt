@@ -9,7 +9,7 @@ use native.Mathlib.Numerals.{add-one}
 use borrow.Author.Tests.{leb-true, eqb-true, le-leb}
 use lib.Dec.{leb, eqb}
 use lib.ListN.{drop}
-use Rattle.number.specs.Number.{numberAt}
+use Rattle.coding.specs.Number.{numberAt}
 use Rattle.table.specs.Limits.{entryHead, entryLimit, tableHead, tableLimit, placeSize}
 use Rattle.table.specs.Entry.{lengthAt, kindAt, keyAt, entryForm}
 use Rattle.table.specs.Table.{countOf, entriesGood, allZero, tableGood, isTable, isMemory}

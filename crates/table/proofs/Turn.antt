@@ -1,5 +1,5 @@
 -- One turn of the loops that judge a table: what is left of a definition, after a byte and after an entry.
-use Prim.Native.Nat.{ℕ, suc, _+_, _-_, _<_}
+use Prim.Native.Nat.{ℕ, suc, _+_, _-_, _≤_, _<_}
 use mathlib.Core.Path.{_≡_, refl}
 use mathlib.Core.Bool.{Bool, true, false, cond, _&&_, _||_, and-assoc}
 use mathlib.Core.List.{List}
@@ -8,12 +8,12 @@ use native.Mathlib.Numerals.{add-one}
 use lib.Dec.{leb, ltb, eqb, leb·zero, eqb·suc-zero}
 use lib.ListN.{length, getD, set, drop}
 use lib.Seq.{sets, drop-cons}
-use Rattle.number.specs.Number.{numberAt}
+use Rattle.coding.specs.Number.{numberAt}
 use Rattle.table.specs.Limits.{tableHead, tableLimit}
 use Rattle.table.specs.Entry.{lengthAt, kindAt, keyAt, entryForm}
-use Rattle.table.specs.Table.{countOf, zeros, entriesGood, allZero, tableGood}
-use Rattle.table.specs.Search.{seekAt}
-use Rattle.table.specs.declared.search.Found.the-variants.{At}
+use Rattle.table.specs.Table.{countOf, zeros, entriesAt, entriesGood, allZero, tableGood}
+use Rattle.table.specs.Search.{countBelow}
+use Rattle.table.proofs.Found.{entryAt-key}
 
 -- All bytes from i on are zero if the one at i is, and all behind it.
 pub zero-turn : (s : List ℕ) (i : ℕ) → i < length s → allZero (drop i s) ≡ eqb (getD s i 0) 0 && allZero (drop (i + 1) s)
@@ -38,13 +38,18 @@ good-turn n i s at last end h =
     let e : n - i ≡ suc (n - (i + 1)) = omega arith in
     rw (e, add-one i, eqb·suc-zero i, least-test (eqb i 0) last (keyAt s at), and-assoc)
 
--- The first key not below k is this entry's, or one behind it.
-pub seek-turn : (n i : ℕ) (s : List ℕ) (at k : ℕ) → i < n
-    → seekAt (n - i) s at k ≡ cond (leb k (keyAt s at)) (At at) (seekAt (n - (i + 1)) s (at + lengthAt s at) k)
-unfolding seekAt
-seek-turn n i s at k h =
+-- As many keys of the entries from the i-th on are below k as this one's and those behind it; where none is left, none is.
+pub below-turn : (k n i : ℕ) (s : List ℕ) (at : ℕ) → i < n
+    → countBelow k (entriesAt (n - i) s at)
+    ≡ cond (leb k (keyAt s at)) 0 (suc (countBelow k (entriesAt (n - (i + 1)) s (at + lengthAt s at))))
+unfolding entriesAt countBelow
+below-turn k n i s at h =
     let e : n - i ≡ suc (n - (i + 1)) = omega arith in
-    rw e
+    rw (e, entryAt-key s at)
+
+pub below-end : (k n i : ℕ) (s : List ℕ) (at : ℕ) → n ≤ i → countBelow k (entriesAt (n - i) s at) ≡ 0
+unfolding entriesAt countBelow
+below-end k n i s at h = let e : n - i ≡ 0 = omega arith in rw e
 
 -- A table is good if its head is, its entries are and the rest is zero.
 pub good-head : (fewest : ℕ) (s : List ℕ)

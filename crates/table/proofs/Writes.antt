@@ -6,9 +6,9 @@ use mathlib.Core.List.{List, [], _++_, append-assoc}
 use native.Mathlib.Omega.{arith}
 use lib.ListN.{length, length-append}
 use lib.Seq.{sets}
-use Rattle.number.specs.Number.{bytesOf}
-use Rattle.number.proofs.Laws.{length-bytesOf}
-use Rattle.number.proofs.Sets.{sets-append, sets-mid}
+use Rattle.coding.specs.Number.{bytesOf}
+use Rattle.coding.proofs.NumberLaws.{length-bytesOf}
+use Rattle.coding.proofs.Sets.{sets-append, sets-mid}
 use Rattle.table.specs.Limits.{entryHead, tableHead, placeSize}
 use Rattle.table.specs.Entry.{Entry, entryLength, entryBytes, entryOf, entryForm, lengthAt}
 use Rattle.table.specs.Table.{zeros, countOf, entriesBytes, tableLength, tableBytes, appended}

@@ -8,7 +8,7 @@ use native.Mathlib.Nat.{suc-add, zero-add}
 use borrow.Author.Tests.{eqb-true}
 use lib.Dec.{eqb}
 use lib.ListN.{length}
-use Rattle.number.specs.Number.{Bytes}
+use Rattle.coding.specs.Number.{Bytes}
 use Rattle.table.specs.Table.{zeros, allZero}
 use Rattle.table.proofs.Tests.{and-parts}
 

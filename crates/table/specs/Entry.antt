@@ -1,11 +1,11 @@
--- An entry (document 01): length of the whole (2 bytes), kind (2: 1 value, 2 delete mark), key (8), value (0 to 48).
+-- An entry (document 01): length of the whole (2 bytes), kind (2: 1 value, 2 delete mark), key (8), value (up to `valueLimit`).
 use Prim.Native.Nat.{ℕ, _+_, _-_}
 use mathlib.Core.List.{List, [], _++_}
 use mathlib.Core.Bool.{Bool, cond, _&&_, _||_}
 use mathlib.Core.Option.{Option, some, none}
 use lib.Dec.{leb, eqb}
 use lib.ListN.{length, take, drop}
-use Rattle.number.specs.Number.{numberAt, bytesOf}
+use Rattle.coding.specs.Number.{numberAt, bytesOf}
 use Rattle.table.specs.Limits.{entryHead, entryLimit}
 
 -- What stands under a key: a value's bytes, or a delete mark, which is `none`.
@@ -46,6 +46,7 @@ entryOf kind key v = record { key = key; value = cond (eqb kind 2) none (some v)
 unfoldable pub entryAt : List ℕ → ℕ → Entry
 entryAt s at = entryOf (kindAt s at) (keyAt s at) (take (lengthAt s at - entryHead) (drop (at + entryHead) s))
 
--- The kinds of entries with the lengths that they may have: a value 12 to 60, a delete mark always 12.
+-- The kinds of entries with the lengths that they may have: a value's is that of the head and its bytes, a delete mark's always
+-- that of the head.
 unfoldable pub entryForm : (kind length : ℕ) → Bool
 entryForm kind len = (eqb kind 1 && (leb entryHead len && leb len entryLimit)) || (eqb kind 2 && eqb len entryHead)

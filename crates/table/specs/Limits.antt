@@ -1,7 +1,7 @@
 -- The numbers that bound the formats (document 01, "Lent memory"), each said once.
 use Prim.Native.Nat.{ℕ, _+_}
 
--- a value has at most so many bytes
+-- a value has at most so many bytes; nothing else says this number, or one that follows from it
 abbrev pub valueLimit : ℕ
 valueLimit = 48
 

@@ -20,6 +20,11 @@ unfoldable pub firstFrom : ℕ → List Entry → Option Entry
 firstFrom k [] = none
 firstFrom k (e ∷ es) = cond (leb k (e .key)) (some e) (firstFrom k es)
 
+-- How many entries in front have keys below this one.
+unfoldable pub countBelow : (key : ℕ) → List Entry → ℕ
+countBelow k [] = 0
+countBelow k (e ∷ es) = cond (leb k (e .key)) 0 (suc (countBelow k es))
+
 -- The key of the first entry, and of the last.
 unfoldable pub leastKey : List Entry → ℕ
 leastKey [] = 0

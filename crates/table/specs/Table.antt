@@ -1,14 +1,14 @@
 -- A table (document 01): length in use (2 bytes), kind 32 (2), entry count (2), zero (2), then the entries, keys strictly rising.
 -- The rest of the place is zero. The memory table has the same form, and may be empty.
-use Prim.Native.Nat.{ℕ, zero, suc, _+_, _-_, _≤_, _<_}
+use Prim.Native.Nat.{ℕ, zero, suc, _+_, _-_, _≤_, _<_, _*_}
 use mathlib.Core.List.{List, [], _∷_, _++_}
 use mathlib.Core.Path.{_≡_}
 use mathlib.Core.Bool.{Bool, true, _&&_}
 use lib.Dec.{leb, eqb}
 use lib.ListN.{length, take, drop}
 use lib.Seq.{sets}
-use Rattle.number.specs.Number.{numberAt, bytesOf}
-use Rattle.table.specs.Limits.{entryHead, tableHead, tableLimit, placeSize}
+use Rattle.coding.specs.Number.{numberAt, bytesOf}
+use Rattle.table.specs.Limits.{entryHead, entryLimit, tableHead, tableLimit, placeSize}
 use Rattle.table.specs.Entry.{Entry, entryBytes, entryLength, lengthAt, kindAt, keyAt, entryAt, entryForm}
 
 unfoldable pub zeros : ℕ → List ℕ
@@ -72,6 +72,20 @@ isTable s = tableGood 1 s
 unfoldable pub isMemory : List ℕ → Bool
 isMemory s = tableGood 0 s
 
+-- A place's bytes that hold a table, and those that hold a memory table.
+abbrev pub TablePlace : List ℕ → Type 0
+TablePlace s = (length s ≡ placeSize) × (isTable s ≡ true)
+
+abbrev pub MemoryPlace : List ℕ → Type 0
+MemoryPlace s = (length s ≡ placeSize) × (isMemory s ≡ true)
+
+-- An entry stands whole at a position of a table.
+pub record Seated (s : List ℕ) (at : ℕ) : Type 0 where
+  pub form : entryForm (kindAt s at) (lengthAt s at) ≡ true
+  pub low : entryHead ≤ lengthAt s at
+  pub high : lengthAt s at ≤ entryLimit
+  pub room : at + lengthAt s at ≤ placeSize
+
 -- The place after an entry was put behind its last: the entry's bytes, the new length in use, one entry more.
 unfoldable pub appended : Entry → List ℕ → List ℕ
 appended e s =
@@ -81,6 +95,10 @@ appended e s =
 abbrev pub placeAt : (start : ℕ) → List ℕ → List ℕ
 placeAt start area = take placeSize (drop start area)
 
+-- The bytes of the place p.
+abbrev pub placeOf : (area : List ℕ) → (p : ℕ) → List ℕ
+placeOf area p = placeAt (p * placeSize) area
+
 -- What may be appended: an entry of the right form, to a table that has begun, with room for it and fewer than 16 entries.
 pub record Appends (s : List ℕ) (kind : ℕ) (value : List ℕ) : Type 0 where
   pub place : length s ≡ placeSize
@@ -88,3 +106,10 @@ pub record Appends (s : List ℕ) (kind : ℕ) (value : List ℕ) : Type 0 where
   pub form : entryForm kind (entryHead + length value) ≡ true
   pub room : lengthAt s 0 + (entryHead + length value) ≤ placeSize
   pub few : countOf s < tableLimit
+
+-- A place in which a table has begun, with room for n entries more.
+pub record RoomFor (n : ℕ) (s : List ℕ) : Type 0 where
+  pub place : length s ≡ placeSize
+  pub begun : tableHead ≤ lengthAt s 0
+  pub small : lengthAt s 0 ≤ tableHead + entryLimit * countOf s
+  pub few : countOf s + n ≤ tableLimit

@@ -18,6 +18,8 @@ pub const TABLE_LIMIT: usize = 16;
 // A place has so many bytes.
 pub const PLACE_SIZE: usize = 1024;
 
+pub type PlaceBytes = [u8; PLACE_SIZE];
+
 // The kind of an entry that holds a value.
 pub const VALUE: u16 = 1;
 

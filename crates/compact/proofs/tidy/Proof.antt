@@ -4,17 +4,17 @@ use mathlib.Core.Path.{_≡_, refl, sym, _∙_, ap}
 use mathlib.Core.List.{List}
 use native.Mathlib.Omega.{arith}
 use borrow.Author.Needs.{needs}
-use Rattle.number.specs.Number.{Bytes}
+use Rattle.coding.specs.Number.{Bytes}
 use Rattle.ldc.specs.Lent.{storeOf}
 use Rattle.ldc.specs.Tidy.{tidyStep}
 use Rattle.book.specs.Head.{headWords}
-use Rattle.book.specs.Made.{lent}
-use Rattle.graft.specs.Merge.{Backed}
-use Rattle.plan.specs.Plan.{planOf, named}
-use Rattle.plan.specs.declared.Plan.{Plan}
-use Rattle.plan.proofs.Plans.{Planned, plan-named, plan-tells}
-use Rattle.plan.proofs.Given.{shows}
-use Rattle.tidied.proofs.Given.{sound, same, levels}
+use Rattle.book.specs.Pieces.{lent}
+use Rattle.compact_install.specs.Merge.{Backed}
+use Rattle.compact_pick.specs.Plan.{planOf, planStep}
+use Rattle.compact_pick.specs.declared.Plan.{Plan}
+use Rattle.compact_pick.proofs.Plans.{Planned, plan-named, plan-tells}
+use Rattle.compact_pick.proofs.Given.{told}
+use Rattle.compact.proofs.Given.{sound, same, levels}
 use Rattle.compact.proofs.tidy.Statement.{statement}
 use Rattle.compact.proofs.tidy.Tie as tie
 
@@ -32,20 +32,23 @@ make-plan-requires c κs =
 -- The plan that was made, with every memory table.
 planned : (c : tie.After-make-plan)
     → let a = c .before .before .before .before .before .before .args in
-    (memory : List ℕ) → Backed (a .area .now) (a .cards .now) (a .lists .now) (headWords (a .head)) memory
+    (memory : List ℕ) → Backed (lent (a .area .now) (a .cards .now) (a .lists .now) (headWords (a .head)) memory)
     → c .make-plan .result ≡ planOf (storeOf (lent (a .area .now) (a .cards .now) (a .lists .now) (headWords (a .head)) memory))
-planned c memory b = c .make-plan .ensures _ (shows _ (b .kept))
+planned c memory b =
+    let a = c .before .before .before .before .before .before .args in
+    let t = told (lent (a .area .now) (a .cards .now) (a .lists .now) (headWords (a .head)) memory) (b .kept) in
+    c .make-plan .ensures _ (record { reads = t .reads; booked = t .booked })
 
 -- It names the step.
 step : (c : tie.After-make-plan)
     → let a = c .before .before .before .before .before .before .args in
-    (memory : List ℕ) → Backed (a .area .now) (a .cards .now) (a .lists .now) (headWords (a .head)) memory
+    (memory : List ℕ) → Backed (lent (a .area .now) (a .cards .now) (a .lists .now) (headWords (a .head)) memory)
     → let s = storeOf (lent (a .area .now) (a .cards .now) (a .lists .now) (headWords (a .head)) memory) in
-    tidyStep s ≡ named s (c .make-plan .result)
+    tidyStep s ≡ planStep s (c .make-plan .result)
 step c memory b =
     let a = c .before .before .before .before .before .before .args in
     let s = storeOf (lent (a .area .now) (a .cards .now) (a .lists .now) (headWords (a .head)) memory) in
-    plan-named s ∙ ap (named s) (sym (planned c memory b))
+    plan-named s ∙ ap (planStep s) (sym (planned c memory b))
 
 -- And it tells of the table.
 tells : (c : tie.After-make-plan) → (r : Plan) → c .make-plan .result ≡ r
@@ -70,7 +73,7 @@ take-down-requires : tie.Need-take-down-requires
 take-down-requires c κs =
     let n = c .before .before .before .before in
     let p = n .before .before in
-    record { tidy = p .before .before .before .before .before .before .pre; chosen = tells p _ (n .n .given .1) }
+    record { work = p .before .before .before .before .before .before .pre; chosen = tells p _ (n .n .given .1) }
 
 enum-known-n-2 : tie.Need-enum-known-n-2
 enum-known-n-2 c = search needs
@@ -79,8 +82,7 @@ merge-or-refuse-requires : tie.Need-merge-or-refuse-requires
 merge-or-refuse-requires c κs =
     let n = c .before .before .before .before in
     let p = n .before .before in
-    let t = tells p _ (n .n2 .given .1) in
-    record { tidy = p .before .before .before .before .before .before .pre; lowest = t .lowest; highest = t .highest; on = t .on }
+    record { work = p .before .before .before .before .before .before .pre; merging = tells p _ (n .n2 .given .1) }
 
 same-length : tie.Need-same-length
 same-length c = search needs
@@ -97,7 +99,7 @@ returns c memory b =
     let k = p .before .before .before .before .before in
     let a = k .before .args in
     let t = k .before .pre in
-    rw (step p memory b ∙ ap (named _) (c .enum-told .given .1))
+    rw (step p memory b ∙ ap (planStep _) (c .enum-told .given .1))
     (record { result = refl; body = refl; left = sym (same (a .area .now) (a .cards .now) (a .lists .now) (headWords (a .head)) memory (t .wide) refl b (bytes k)) })
 
 same-length-4 : tie.Need-same-length-4
@@ -113,7 +115,7 @@ returns-2 : tie.Need-returns-2
 returns-2 c memory b =
     let d = c .before .before .before in
     let n = d .before .before .before .before .before in
-    rw (step (n .before .before) memory b ∙ ap (named _) (n .n .given .1)) (d .take-down .ensures memory b)
+    rw (step (n .before .before) memory b ∙ ap (planStep _) (n .n .given .1)) (d .take-down .ensures memory b)
 
 same-length-7 : tie.Need-same-length-7
 same-length-7 c = search needs
@@ -128,7 +130,7 @@ returns-3 : tie.Need-returns-3
 returns-3 c memory b =
     let d = c .before .before .before .before .before in
     let n = d .before .before .before .before .before in
-    rw (step (n .before .before) memory b ∙ ap (named _) (n .n2 .given .1)) (d .merge-or-refuse .ensures memory b)
+    rw (step (n .before .before) memory b ∙ ap (planStep _) (n .n2 .given .1)) (d .merge-or-refuse .ensures memory b)
 
 pub tidy-spec : {M : Type 1} → statement M
 tidy-spec =

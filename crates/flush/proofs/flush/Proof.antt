@@ -7,13 +7,14 @@ use borrow.Author.Needs.{needs}
 use borrow.Author.Tests.{leb-true, not-true, not-false}
 use lib.Dec.{leb}
 use Rattle.table.specs.Table.{countOf}
+use Rattle.ldc.specs.Layout.{mostPlaces}
 use Rattle.ldc.specs.Lent.{Lent}
-use Rattle.ldc.proofs.Lent.Shape.{Shape}
+use Rattle.ldc.specs.Facts.{Shape}
 use Rattle.book.specs.Head.{headWords}
-use Rattle.book.specs.Made.{lent}
 use Rattle.book.specs.Place.{freeRows}
+use Rattle.book.specs.Pieces.{lent}
 use Rattle.read.specs.Shown.{Kept}
-use Rattle.writer.proofs.Keeping.{shape-of, area-kept, cursor-kept}
+use Rattle.book_edit.proofs.Keeping.{shape-of, area-kept, cursor-kept}
 use Rattle.flush.proofs.Flushing.{flush-empty, flush-full, flush-place, flush-listing, flush-done}
 use Rattle.flush.proofs.flush.Statement.{statement}
 use Rattle.flush.proofs.flush.Tie as tie
@@ -27,10 +28,10 @@ found c =
 shape : (c : tie.After-slice-known3) → Shape (found c)
 shape c =
     let b = c .before .before .before in
-    shape-of (found c) (b .pre .0) refl (b .pre .1 .0) (λ i. omega (arith, c .slice-known3 .given i)) (λ i. omega (arith, c .before .before .slice-known .given i))
+    shape-of (found c) (b .pre .wide) refl (b .pre .memory) (λ i. omega (arith, c .slice-known3 .given i)) (λ i. omega (arith, c .before .before .slice-known .given i))
 
 kept : (c : tie.After-slice-known3) → Kept (found c)
-kept c = c .before .before .before .pre .1 .1
+kept c = c .before .before .before .pre .kept
 
 count-requires : tie.Need-count-requires
 count-requires c κs = search needs
@@ -71,13 +72,13 @@ write-table-requires c κs =
     let k = e .before .before .before .before .before .before in (
       area-kept (found k) (shape k) (kept k),
       (
-        k .before .before .before .pre .1 .0,
+        k .before .before .before .pre .memory,
         (cursor-kept (found k) (shape k) (kept k), leb-true 1 (freeRows (found k .cards)) (room e)),
       ),
     )
 
 -- What a law says of the table written.
-below : (c : tie.After-write-table) → c .write-table .result .place < 4096
+below : (c : tie.After-write-table) → c .write-table .result .place < mostPlaces
 below c =
     let e = c .before .before .before .before in
     let l = e .before .before .before in
@@ -100,7 +101,7 @@ join-requires c κs =
 clear-requires : tie.Need-clear-requires
 clear-requires c κs =
     let w = c .before .before .before .before .before .before .before .before .before .before in
-    w .before .before .before .before .before .before .before .before .before .before .before .before .before .pre .1 .0
+    w .before .before .before .before .before .before .before .before .before .before .before .before .before .pre .memory
 
 same-length-4 : tie.Need-same-length-4
 same-length-4 c = search needs

@@ -2,10 +2,10 @@
 use mathlib.Core.Path.{_∙_}
 use native.Mathlib.Omega.{arith}
 use borrow.Author.Needs.{needs}
-use Rattle.number.specs.Number.{Bytes}
-use Rattle.book.specs.Made.{lent}
-use Rattle.pieces.specs.Pieces.{pieces}
-use Rattle.pieces.proofs.Joined.{performed, refused}
+use Rattle.coding.specs.Number.{Bytes}
+use Rattle.book.specs.Pieces.{lent}
+use Rattle.history_lists.specs.Pieces.{pieces}
+use Rattle.history_lists.proofs.Joined.{performed, refused}
 use Rattle.history.proofs.perform.Statement.{statement}
 use Rattle.history.proofs.perform.Tie as tie
 

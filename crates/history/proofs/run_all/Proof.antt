@@ -3,11 +3,11 @@ use Prim.Native.Nat.{ℕ, _-_, _≤_, _<_}
 use mathlib.Core.Path.{_≡_, refl, _∙_}
 use native.Mathlib.Omega.{arith}
 use lib.ListN.{length}
-use Rattle.book.specs.Made.{lent}
-use Rattle.pieces.specs.Pieces.{pieces}
-use Rattle.pieces.specs.Performs.{Ran}
-use Rattle.pieces.proofs.Starts.{Ends, ready-room, ready-buffer}
-use Rattle.pieces.proofs.Turn.{ran-none, ran-more}
+use Rattle.book.specs.Pieces.{lent}
+use Rattle.history_lists.specs.Pieces.{pieces}
+use Rattle.history_lists.specs.Performs.{Ran}
+use Rattle.history_lists.proofs.Starts.{Ends, ready-room, ready-buffer}
+use Rattle.history_lists.proofs.Turn.{ran-none, ran-more}
 use Rattle.history.proofs.run_all.Statement.{statement}
 use Rattle.history.proofs.run_all.Tie as tie
 

@@ -6,9 +6,9 @@ use native.Mathlib.Omega.{arith}
 use borrow.Author.Needs.{needs}
 use lib.ListN.{length, getD, take, drop, length-set}
 use lib.Seq.{length-sets}
-use Rattle.number.proofs.Sets.{length-part, sets-back}
-use Rattle.book.specs.Made.{lent}
-use Rattle.pieces.proofs.Starts.{Ends, ready-room, ready-list, ready-buffer}
+use Rattle.coding.proofs.Sets.{length-part, sets-back}
+use Rattle.book.specs.Pieces.{lent}
+use Rattle.history_lists.proofs.Starts.{Ends, ready-room, ready-list, ready-buffer}
 use Rattle.history.proofs.One.{ran-one}
 use Rattle.history.proofs.run_one.Statement.{statement}
 use Rattle.history.proofs.run_one.Tie as tie

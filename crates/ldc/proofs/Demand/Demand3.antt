@@ -8,7 +8,7 @@ use mathlib.Core.Bool.{true}
 use mathlib.Core.Option.{some}
 use native.Mathlib.Omega.{arith}
 use lib.ListN.{length, drop}
-use Rattle.number.specs.Number.{Bytes}
+use Rattle.coding.specs.Number.{Bytes}
 use Rattle.table.specs.Entry.{Entry}
 use Rattle.table.specs.Limits.{placeSize}
 use Rattle.table.specs.Search.{find}

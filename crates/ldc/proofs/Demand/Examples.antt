@@ -14,7 +14,7 @@ use Rattle.ldc.specs.History.{fed, resultIn}
 use Rattle.table.specs.Entry.{entryLength, entryBytes, entryOf, entryAt}
 use Rattle.table.specs.Table.{zeros, entriesBytes, tableLength, tableBytes, countOf, entriesAt, entries}
 use Rattle.table.specs.Search.{find, leastKey, greatestKey}
-use Rattle.number.specs.Number.{numberAt, bytesOf}
+use Rattle.coding.specs.Number.{numberAt, bytesOf}
 use Rattle.ldc.specs.Examples.{examples, slips, agree}
 
 pub examples-agree : agree examples ≡ true

@@ -8,7 +8,7 @@ use mathlib.Core.Logic.{_⊎_, inl, inr}
 use borrow.Author.Tests.{ne-eqb}
 use lib.Dec.{ltb}
 use lib.ListN.{length}
-use Rattle.number.specs.Number.{Bytes}
+use Rattle.coding.specs.Number.{Bytes}
 use Rattle.table.specs.Entry.{Entry}
 use Rattle.table.specs.Limits.{tableLimit}
 use Rattle.table.specs.Search.{find}
@@ -25,7 +25,6 @@ use Rattle.ldc.proofs.Serving.Events.{serveList}
 use Rattle.ldc.proofs.Serving.Keeps.{look-store, keeps}
 use Rattle.ldc.proofs.Serving.KeepsWhole.{whole-keeps}
 use Rattle.ldc.proofs.Lent.Rules.{kept-lentOf}
-use Rattle.ldc.proofs.Lent.Shape.{Shape}
 use Rattle.ldc.proofs.Lent.Shows.{sound-storeOf, whole-storeOf, lentOf-storeOf}
 use Rattle.ldc.proofs.Demand.MirrorKeeps.{view-put, flush-values, tidy-values}
 use Rattle.ldc.proofs.Stores.Order.{view}
@@ -33,6 +32,7 @@ use Rattle.ldc.proofs.Serving.Runs.{ran}
 use Rattle.ldc.proofs.Serving.ServeCases.{serve-cases}
 use Rattle.ldc.proofs.Stores.Sound.{Sound}
 use Rattle.ldc.proofs.Serving.Splits.{Sent, split-bytes}
+use Rattle.ldc.specs.Facts.{Shape}
 
 -- A put or delete of this key.
 abbrev pub Writes : Request → (key : ℕ) → Type 0

@@ -14,7 +14,8 @@ use Rattle.ldc.specs.Lists.{flat}
 use Rattle.ldc.specs.Store.{Store, links, table, spanStart, spanEnd}
 use Rattle.ldc.specs.Tidy.{cutIn, cut}
 use Rattle.ldc.proofs.Entries.Keys.{keys-order, keys-lower, values-take, values-drop}
-use Rattle.ldc.proofs.Stores.Spans.{Spans, least-greatest}
+use Rattle.ldc.proofs.Stores.Spans.{least-greatest}
+use Rattle.ldc.specs.Facts.{Spans}
 
 pub flat-cutIn : (n : ℕ) (es : List Entry) → length es ≤ n → flat (cutIn n es) ≡ es
 flat-cutIn zero [] h = refl

@@ -8,13 +8,14 @@ use native.Mathlib.Omega.{arith}
 use native.Mathlib.Nat.{zero-mul, suc-mul}
 use lib.ListN.{length, getD, set, length-set, length-map}
 use lib.Seq.{sets}
-use Rattle.number.proofs.Sets.{sets-all, sets-left, sets-right}
+use Rattle.coding.proofs.Sets.{sets-all, sets-left, sets-right}
 use Rattle.table.specs.Limits.{placeSize}
 use Rattle.ldc.specs.Lists.{flat}
 use Rattle.ldc.specs.Store.{Card, Store, withCard, withLevel, withPlace, withCursor, withMarks}
-use Rattle.ldc.specs.Lent.{lentOf, rowOf, markWords}
+use Rattle.ldc.specs.Lent.{lentOf}
 use Rattle.ldc.proofs.Basics.ListLaws.{Each}
 use Rattle.ldc.proofs.Lent.Parts.{padded, length-padded}
+use Rattle.ldc.specs.Layout.{rowOf, markWords, lengthWord}
 
 -- ---- lists of equal parts
 
@@ -83,7 +84,7 @@ module _ (s : Store) where
   head-withCursor c = refl
 
   -- with two marks, the lengths of the lists begin at word 6
-  pub head-withLevel : (a b : Option ℕ) → s .marks ≡ a ∷ b ∷ [] → (n : ℕ) (ps : List ℕ) → lentOf (withLevel n ps s) .head ≡ set (lentOf s .head) (6 + n) (length ps)
+  pub head-withLevel : (a b : Option ℕ) → s .marks ≡ a ∷ b ∷ [] → (n : ℕ) (ps : List ℕ) → lentOf (withLevel n ps s) .head ≡ set (lentOf s .head) (lengthWord n) (length ps)
   unfolding lentOf
   head-withLevel a b e n ps =
       let x = two-words a in

@@ -17,7 +17,8 @@ use Rattle.table.proofs.Tests.{and-parts, or-parts, cases}
 use Rattle.table.proofs.Zeros.{length-zeros, zero-bytes, zeros-zero}
 use Rattle.ldc.specs.Lists.{flat}
 use Rattle.ldc.specs.Store.{Link, Card, free, live, frozen, linksOf}
-use Rattle.ldc.specs.Lent.{stateOf, linkCount, linksAt, cardOf, markOf, linkWords, stateWord, rowOf, markWords, rowGood, markGood}
+use Rattle.ldc.specs.Lent.{rowGood}
+use Rattle.ldc.specs.Layout.{stateOf, linkCount, linksAt, cardOf, markOf, linkWords, stateWord, rowOf, markWords, markGood, rowSize, rowRest, linkLimit, rowHead, linkSize, linkStart, liveState}
 
 -- ---- links
 
@@ -52,26 +53,26 @@ words-back (suc n) row at h =
       r,
     )
 
-length-linkWords : (ls : List Link) → length (linkWords ls) ≡ 3 * length ls
+length-linkWords : (ls : List Link) → length (linkWords ls) ≡ linkSize * length ls
 length-linkWords [] = refl
 length-linkWords (l ∷ ls) = let r = length-linkWords ls in omega arith
 
 pub length-linksAt : (n : ℕ) (row : List ℕ) (at : ℕ) → length (linksAt n row at) ≡ n
 length-linksAt zero row at = refl
-length-linksAt (suc n) row at = ap suc (length-linksAt n row (at + 3))
+length-linksAt (suc n) row at = ap suc (length-linksAt n row (at + linkSize))
 
 -- ---- cards
 
--- A card of at most eight links is read back from its row, which has 26 words.
-pub card-back : (c : Card) → length (linksOf c) ≤ 8 → cardOf (rowOf c) ≡ c
+-- A card with no more links than there is room for is read back from its row.
+pub card-back : (c : Card) → length (linksOf c) ≤ linkLimit → cardOf (rowOf c) ≡ c
 unfolding cardOf rowOf stateOf linkCount
 card-back free h = refl
 card-back frozen h = refl
 card-back (live ls) h =
-    let n : min (length ls) 8 ≡ length ls = omega arith in
-    rw (n, links-back ls (1 ∷ length ls ∷ (linkWords ls ++ zeros (24 - 3 * length ls))) 2 (zeros (24 - 3 * length ls)) refl)
+    let n : min (length ls) linkLimit ≡ length ls = omega arith in
+    rw (n, links-back ls (liveState ∷ length ls ∷ (linkWords ls ++ zeros (linkSize * linkLimit - linkSize * length ls))) rowHead (zeros (linkSize * linkLimit - linkSize * length ls)) refl)
 
-pub length-rowOf : (c : Card) → length (linksOf c) ≤ 8 → length (rowOf c) ≡ 26
+pub length-rowOf : (c : Card) → length (linksOf c) ≤ linkLimit → length (rowOf c) ≡ rowSize
 unfolding rowOf
 length-rowOf c h = rw (length-append, length-linkWords, length-zeros) (omega arith)
 
@@ -86,22 +87,22 @@ good-rowOf free = refl
 good-rowOf (live ls) = refl
 good-rowOf frozen = refl
 
-pub rest-rowOf : (c : Card) → allZero (drop (2 + 3 * linkCount (rowOf c)) (rowOf c)) ≡ true
+pub rest-rowOf : (c : Card) → allZero (rowRest (rowOf c)) ≡ true
 unfolding linkCount rowOf
 rest-rowOf c =
     let n : ℕ = length (linksOf c) in
-    let e : 2 + 3 * n ≡ suc (suc (3 * n)) = omega arith in
-    rw (e, drop-at (linkWords (linksOf c)) (zeros (24 - 3 * n)) (3 * n) (length-linkWords (linksOf c))) (zeros-zero (24 - 3 * n))
+    let e : linkStart n ≡ suc (suc (linkSize * n)) = omega arith in
+    rw (e, drop-at (linkWords (linksOf c)) (zeros (linkSize * linkLimit - linkSize * n)) (linkSize * n) (length-linkWords (linksOf c))) (zeros-zero (linkSize * linkLimit - linkSize * n))
 
--- A row of 26 words is made of its state, its count, as many links, and zeros if the rest is zero.
-row-parts : (n : ℕ) (row : List ℕ) → length row ≡ 26 → n ≤ 8 → allZero (drop (2 + 3 * n) row) ≡ true
-    → getD row 0 0 ∷ getD row 1 0 ∷ (linkWords (linksAt n row 2) ++ zeros (24 - 3 * n)) ≡ row
+-- A whole row is made of its state, its count, as many links, and zeros if the rest is zero.
+row-parts : (n : ℕ) (row : List ℕ) → length row ≡ rowSize → n ≤ linkLimit → allZero (drop (linkStart n) row) ≡ true
+    → getD row 0 0 ∷ getD row 1 0 ∷ (linkWords (linksAt n row rowHead) ++ zeros (linkSize * linkLimit - linkSize * n)) ≡ row
 row-parts n row h few rest =
-    let size : length (drop (2 + 3 * n) row) ≡ 24 - 3 * n = rw length-drop (omega arith) in
-    let end : drop (3 * n) (drop 2 row) ≡ zeros (24 - 3 * n) =
-    drop-drop (3 * n) 2 row ∙ rw size at (zero-bytes (drop (2 + 3 * n) row) rest) in
-    let links : linkWords (linksAt n row 2) ++ zeros (24 - 3 * n) ≡ drop 2 row =
-    rw (words-back n row 2 (omega arith), ← end) (take-append-drop (3 * n) (drop 2 row)) in
+    let size : length (drop (linkStart n) row) ≡ linkSize * linkLimit - linkSize * n = rw length-drop (omega arith) in
+    let end : drop (linkSize * n) (drop rowHead row) ≡ zeros (linkSize * linkLimit - linkSize * n) =
+    drop-drop (linkSize * n) rowHead row ∙ rw size at (zero-bytes (drop (linkStart n) row) rest) in
+    let links : linkWords (linksAt n row rowHead) ++ zeros (linkSize * linkLimit - linkSize * n) ≡ drop rowHead row =
+    rw (words-back n row rowHead (omega arith), ← end) (take-append-drop (linkSize * n) (drop rowHead row)) in
     rw links (sym (drop-cons row 0 0 (omega arith) ∙ ap (λ (s : List ℕ). getD row 0 0 ∷ s) (drop-cons row 1 0 (omega arith))))
 
 module _ (row : List ℕ) (good : rowGood row ≡ true) where
@@ -116,17 +117,17 @@ module _ (row : List ℕ) (good : rowGood row ≡ true) where
       (λ r. let g : leb (stateOf row) 2 ≡ true = and-parts (leb (stateOf row) 2) (eqb (linkCount row) 0) (rw q at good) .0 in
       rw (q, r) (omega (arith, leb-true (stateOf row) 2 g, eqb-false (stateOf row) 1 q, eqb-false (stateOf row) 2 r))))
 
-  pub links-of : linkCount row ≤ 8 → linksOf (cardOf row) ≡ linksAt (linkCount row) row 2
+  pub links-of : linkCount row ≤ linkLimit → linksOf (cardOf row) ≡ linksAt (linkCount row) row rowHead
   unfolding cardOf rowGood
   links-of few =
       cases (eqb (stateOf row) 1)
-      (λ q. let n : min (linkCount row) 8 ≡ linkCount row = omega arith in rw (q, n))
+      (λ q. let n : min (linkCount row) linkLimit ≡ linkCount row = omega arith in rw (q, n))
       (λ q. let n : linkCount row ≡ 0 =
       eqb-true (linkCount row) 0 (and-parts (leb (stateOf row) 2) (eqb (linkCount row) 0) (rw q at good) .1) in
       cases (eqb (stateOf row) 2) (λ r. rw (q, r, n)) (λ r. rw (q, r, n)))
 
-  -- A row of 26 words that keeps the rules is the one of its card.
-  pub row-back : length row ≡ 26 → linkCount row ≤ 8 → allZero (drop (2 + 3 * linkCount row) row) ≡ true → rowOf (cardOf row) ≡ row
+  -- A whole row that keeps the rules is the one of its card.
+  pub row-back : length row ≡ rowSize → linkCount row ≤ linkLimit → allZero (rowRest row) ≡ true → rowOf (cardOf row) ≡ row
   unfolding rowOf stateOf linkCount
   row-back h few rest =
       rw (state-of, links-of few, length-linksAt) (row-parts (linkCount row) row h few rest)

@@ -15,11 +15,12 @@ use Rattle.table.proofs.Decode.{decode}
 use Rattle.ldc.specs.Lists.{flat}
 use Rattle.ldc.specs.Store.{Card, free, Store, size, card, links, linksOf, isLive, bytesAt, level}
 use Rattle.ldc.specs.Rules.{timesListed}
-use Rattle.ldc.specs.Lent.{placesIn, sizesGood, listLength, listPart, chop, cardOf, levelOf, storeOf, rowOf, markWords, lentOf}
+use Rattle.ldc.specs.Lent.{placesIn, sizesGood, listLength, listPart, chop, levelOf, storeOf, lentOf}
 use Rattle.ldc.proofs.Stores.Sound.{Sound, Whole}
 use Rattle.ldc.proofs.Basics.ListLaws.{spell, map-back, getD-map, getD-mem, at-most, parts, Each, length-flat, length-within, getD-parts, parts-flat}
 use Rattle.ldc.proofs.Lent.Parts.{card-back, marks-read, length-marks, padded, length-padded}
 use Rattle.ldc.proofs.Stores.SoundRules.{beyond, threshold-eight}
+use Rattle.ldc.specs.Layout.{cardOf, rowOf, markWords, mostPlaces, fewestPlaces, linkLimit}
 
 -- Places are parts of 1,024 bytes.
 pub chop-parts : (n : ℕ) (s : List ℕ) → chop n s ≡ parts placeSize n s
@@ -32,7 +33,7 @@ at-most-one false = omega arith
 
 module _ (s : Store) (so : Sound s) where
   -- No card has more than eight links.
-  pub few-links : (c : Card) → List·Memᴰ c (s .cards) → length (linksOf c) ≤ 8
+  pub few-links : (c : Card) → List·Memᴰ c (s .cards) → length (linksOf c) ≤ linkLimit
   unfolding links card
   few-links c m =
       let spot = getD-mem (s .cards) free m in
@@ -89,13 +90,12 @@ module _ (s : Store) (so : Sound s) (w : Whole s) where
   sizes-lentOf =
       let whole : length (lentOf s .area) % placeSize ≡ 0 = omega (arith, length-area) in
       let cards : length (lentOf s .cards) ≡ size s = unfold lentOf size in (length-map (s .cards) rowOf) in
-      rw (places-lentOf, eq-eqb _ _ whole, le-leb 16 (size s) (so .fewest), le-leb (size s) 4096 (so .most), eq-eqb _ _ cards)
+      rw (places-lentOf, eq-eqb _ _ whole, le-leb fewestPlaces (size s) (so .fewest), le-leb (size s) mostPlaces (so .most), eq-eqb _ _ cards)
       (eq-eqb _ _ length-lists)
 
   -- ---- the level lists
 
   pub part-lentOf : (n : ℕ) → n < 4 → listPart (lentOf s) n ≡ padded (size s) (level s n)
-  unfolding listPart
   part-lentOf n h =
       let back : parts (size s) 4 (lentOf s .lists) ≡ laid =
       unfold lentOf laid in (rw length-laid at (parts-flat (size s) laid each-laid)) in
@@ -104,7 +104,7 @@ module _ (s : Store) (so : Sound s) (w : Whole s) where
 
   -- The words of the head behind the marks are the lists' lengths.
   pub length-lentOf : (n : ℕ) → n < 4 → listLength (lentOf s) n ≡ length (level s n)
-  unfolding listLength lentOf level
+  unfolding lentOf level
   length-lentOf n h =
       let words : List ℕ = flat (map markWords (s .marks)) in
       let four : length words ≡ 4 = length-marks (s .marks) ∙ rw (so .two) in

@@ -1,6 +1,6 @@
 -- What it means that no rule is broken, part by part; and that the memory of a sound store breaks none: the parts that speak of
 -- the store hold by `SoundRules`, those that speak of numbers by the form of what is written.
-use Prim.Native.Nat.{ℕ, _+_, _*_}
+use Prim.Native.Nat.{ℕ}
 use mathlib.Core.Path.{_≡_, refl, sym}
 use mathlib.Core.Bool.{Bool, true, false, not, _||_, true≢false}
 use mathlib.Core.List.{List, [], _++_, map, append-nil}
@@ -15,12 +15,13 @@ use Rattle.table.proofs.Decode.{decode-memory}
 use Rattle.ldc.specs.Lists.{all}
 use Rattle.ldc.specs.Store.{Store, free, size, card, links, level}
 use Rattle.ldc.specs.Rules.{ruleA, ruleB, ruleC, ruleE, ruleG}
-use Rattle.ldc.specs.Lent.{Lent, placesIn, linkCount, listLength, listPart, storeOf, rowOf, lentOf, rowGood, numbersGood, countsGood, markGood, unusedZero, keptB, presupposed, keptE, keptF, keptG, letter, broken}
+use Rattle.ldc.specs.Lent.{Lent, placesIn, listLength, listPart, storeOf, lentOf, rowGood, numbersGood, countsGood, unusedZero, keptB, presupposed, keptE, keptF, keptG, letter, broken}
 use Rattle.ldc.proofs.Stores.Sound.{Sound, Whole}
 use Rattle.ldc.proofs.Basics.ListLaws.{all-map, below-of, getD-mem, spell}
 use Rattle.ldc.proofs.Lent.Parts.{count-rowOf, good-rowOf, rest-rowOf, good-marks, padded-rest}
 use Rattle.ldc.proofs.Stores.SoundRules.{Kept, keeps-B, keeps-C, keeps-E, keeps-F, keeps-G}
 use Rattle.ldc.proofs.Lent.Round.{storeOf-lentOf, places-lentOf, level-fits, length-lentOf, part-lentOf}
+use Rattle.ldc.specs.Layout.{linkCount, rowOf, markGood, rowRest}
 
 -- Lent memory in which no rule is broken: the store that it shows keeps the rules, and so do the numbers.
 pub record Unbroken (m : Lent) : Type 0 where
@@ -95,9 +96,9 @@ module _ (s : Store) (so : Sound s) (w : Whole s) where
       rw (spell 2 none (s .marks) (so .two))
       (good-marks (getD (s .marks) 0 none) (getD (s .marks) 1 none) (map (λ ps. length ps) (s .levels)))
 
-  rows-lentOf : all (λ row. allZero (drop (2 + 3 * linkCount row) row)) (lentOf s .cards) ≡ true
+  rows-lentOf : all (λ row. allZero (rowRest row)) (lentOf s .cards) ≡ true
   unfolding lentOf
-  rows-lentOf = all-map rowOf (λ row. allZero (drop (2 + 3 * linkCount row) row)) (s .cards) (λ c m. rest-rowOf c)
+  rows-lentOf = all-map rowOf (λ row. allZero (rowRest row)) (s .cards) (λ c m. rest-rowOf c)
 
   unused-lentOf : unusedZero (lentOf s) ≡ true
   unfolding unusedZero

@@ -1,28 +1,20 @@
 -- What the types of the lent memory give; and that the memory of a sound store has it, by the lengths and the bytes of its pieces.
 use Prim.Native.Nat.{ℕ, zero, suc, _<_}
-use mathlib.Core.Path.{_≡_}
 use mathlib.Core.List.{List, [], _∷_, map}
 use native.Mathlib.Omega.{arith}
 use lib.ListN.{length, getD, drop, length-map, length-append}
-use Rattle.number.specs.Number.{Bytes}
-use Rattle.number.proofs.Laws.{bytes-take, bytes-drop, bytes-append}
-use Rattle.table.specs.Limits.{placeSize}
+use Rattle.coding.specs.Number.{Bytes}
+use Rattle.coding.proofs.NumberLaws.{bytes-take, bytes-drop, bytes-append}
 use Rattle.table.proofs.Decode.{valid-size, bytes-table}
 use Rattle.ldc.specs.Lists.{flat}
 use Rattle.ldc.specs.Store.{free, Store, bytesAt}
-use Rattle.ldc.specs.Lent.{Lent, lentOf, rowOf, markWords}
+use Rattle.ldc.specs.Lent.{lentOf}
 use Rattle.ldc.proofs.Stores.Sound.{Sound}
-use Rattle.ldc.proofs.Basics.ListLaws.{getD-map, mem-getD, parts, Each}
+use Rattle.ldc.proofs.Basics.ListLaws.{getD-map, mem-getD, parts}
 use Rattle.ldc.proofs.Lent.Parts.{length-rowOf, length-marks}
 use Rattle.ldc.proofs.Lent.Round.{few-links}
-
--- Rows of 26 words, ten words of head, 1,024 bytes of memory table; area and memory table are bytes.
-pub record Shape (m : Lent) : Type 0 where
-  pub rows : Each 26 (m .cards)
-  pub head : length (m .head) ≡ 10
-  pub memory : length (m .memory) ≡ placeSize
-  pub memory-bytes : Bytes (m .memory)
-  pub area-bytes : Bytes (m .area)
+use Rattle.ldc.specs.Layout.{rowOf, markWords}
+use Rattle.ldc.specs.Facts.{Shape}
 
 -- ---- bytes end to end
 

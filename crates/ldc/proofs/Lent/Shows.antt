@@ -1,6 +1,6 @@
 -- Lent memory of good sizes in which no rule is broken shows a sound store, and is the memory that this store is written to.
 -- The facts of `Sound` come from the rules by `SoundRules`; the way back goes piece by piece, parts not in use being zero.
-use Prim.Native.Nat.{ℕ, _+_, _*_, _%_, _≤_, _<_}
+use Prim.Native.Nat.{ℕ, _*_, _%_, _≤_, _<_}
 use mathlib.Core.Path.{_≡_, refl, sym, _∙_}
 use mathlib.Core.Bool.{true}
 use mathlib.Core.List.{List, [], map, List·Memᴰ}
@@ -9,21 +9,23 @@ use borrow.Author.Tests.{eqb-true, leb-true, ltb-true, ltb-false}
 use lib.Dec.{eqb, leb, ltb}
 use lib.ListN.{length, getD, drop, length-map}
 use lib.Seq.{length-take-le}
-use Rattle.number.specs.Number.{Bytes}
+use Rattle.coding.specs.Number.{Bytes}
 use Rattle.table.specs.Limits.{placeSize}
 use Rattle.table.specs.Table.{isMemory, allZero}
 use Rattle.table.proofs.Tests.{and-parts, cases}
 use Rattle.table.proofs.Encode.{encode, shows-valid}
 use Rattle.ldc.specs.Lists.{all, allFrom}
 use Rattle.ldc.specs.Store.{free, size, card, links, bytesAt}
-use Rattle.ldc.specs.Lent.{Lent, placesIn, sizesGood, linkCount, listLength, listPart, cardOf, levelOf, storeOf, rowOf, lentOf, rowGood, numbersGood, countsGood, markGood, unusedZero, broken}
+use Rattle.ldc.specs.Lent.{Lent, placesIn, sizesGood, listLength, listPart, levelOf, storeOf, lentOf, rowGood, numbersGood, countsGood, unusedZero, broken}
 use Rattle.ldc.proofs.Stores.Sound.{Sound, Whole}
 use Rattle.ldc.proofs.Basics.ListLaws.{all-at, below-at, mem-getD, getD-mem, getD-map, map-back, spell, parts, length-parts, getD-parts, each-part, flat-parts}
 use Rattle.ldc.proofs.Lent.Parts.{length-linksAt, links-of, row-back, words-of-mark, padded, part-back}
 use Rattle.ldc.proofs.Stores.SoundRules.{beyond, threshold-eight, sound-of}
 use Rattle.ldc.proofs.Lent.Round.{chop-parts}
 use Rattle.ldc.proofs.Lent.Rules.{Unbroken, unbroken}
-use Rattle.ldc.proofs.Lent.Shape.{Shape, bytes-parts}
+use Rattle.ldc.proofs.Lent.Shape.{bytes-parts}
+use Rattle.ldc.specs.Layout.{linkCount, cardOf, rowOf, markGood, marksGood, rowRest, rowSize, mostPlaces, linkLimit}
+use Rattle.ldc.specs.Facts.{Shape}
 
 -- ---- sizes
 
@@ -31,7 +33,7 @@ use Rattle.ldc.proofs.Lent.Shape.{Shape, bytes-parts}
 pub record Sizes (m : Lent) : Type 0 where
   pub area : length (m .area) ≡ placesIn (m .area) * placeSize
   pub fewest : 16 ≤ placesIn (m .area)
-  pub most : placesIn (m .area) ≤ 4096
+  pub most : placesIn (m .area) ≤ mostPlaces
   pub cards : length (m .cards) ≡ placesIn (m .area)
   pub lists : length (m .lists) ≡ 4 * placesIn (m .area)
 
@@ -40,7 +42,7 @@ unfolding sizesGood placesIn
 sizes m h =
     let a = and-parts (eqb (length (m .area) % placeSize) 0) _ h in
     let b = and-parts (leb 16 (placesIn (m .area))) _ (a .1) in
-    let c = and-parts (leb (placesIn (m .area)) 4096) _ (b .1) in
+    let c = and-parts (leb (placesIn (m .area)) mostPlaces) _ (b .1) in
     let d = and-parts (eqb (length (m .cards)) (placesIn (m .area))) _ (c .1) in
     record {
       area = omega (arith, eqb-true (length (m .area) % placeSize) 0 (a .0));
@@ -56,17 +58,17 @@ sizes m h =
 record Unused (m : Lent) : Type 0 where
   first : markGood (getD (m .head) 2 0) (getD (m .head) 3 0) ≡ true
   second : markGood (getD (m .head) 4 0) (getD (m .head) 5 0) ≡ true
-  rows : all (λ row. allZero (drop (2 + 3 * linkCount row) row)) (m .cards) ≡ true
+  rows : all (λ row. allZero (rowRest row)) (m .cards) ≡ true
   lists : allFrom 4 0 (λ n. allZero (drop (listLength m n) (listPart m n))) ≡ true
 
 module _ (m : Lent) (u : Unbroken m) where
   unused : Unused m
   unfolding unusedZero
   unused =
-      let a = and-parts (markGood (getD (m .head) 2 0) (getD (m .head) 3 0)) _ (u .unused) in
-      let b = and-parts (markGood (getD (m .head) 4 0) (getD (m .head) 5 0)) _ (a .1) in
-      let c = and-parts (all (λ row. allZero (drop (2 + 3 * linkCount row) row)) (m .cards)) _ (b .1) in
-      record { first = a .0; second = b .0; rows = c .0; lists = c .1 }
+      let a = and-parts (marksGood (m .head)) _ (u .unused) in
+      let b = and-parts (markGood (getD (m .head) 2 0) (getD (m .head) 3 0)) _ (a .0) in
+      let c = and-parts (all (λ row. allZero (rowRest row)) (m .cards)) _ (a .1) in
+      record { first = b .0; second = b .1; rows = c .0; lists = c .1 }
 
   row-good : (row : List ℕ) → List·Memᴰ row (m .cards) → rowGood row ≡ true
   unfolding numbersGood
@@ -85,7 +87,7 @@ module _ (m : Lent) (u : Unbroken m) where
       (λ q. let near : p < length (m .cards) = ltb-true _ _ q in
       let r : List·Memᴰ row (m .cards) = mem-getD (m .cards) p [] near in
       let few : linkCount row ≤ getD (m .head) 0 0 = row-count row r in
-      let eight : linkCount row ≤ 8 = omega (arith, threshold-eight (storeOf m) (u .store .a)) in
+      let eight : linkCount row ≤ linkLimit = omega (arith, threshold-eight (storeOf m) (u .store .a)) in
       rw (getD-map cardOf (m .cards) p [] free near, links-of row (row-good row r) eight, length-linksAt) few)
       (λ q. let far : size (storeOf m) ≤ p = omega (arith, ltb-false p (length (m .cards)) q, length-map (m .cards) cardOf) in
       rw (beyond (storeOf m) p far) (omega arith))
@@ -146,16 +148,16 @@ module _ (m : Lent) (sh : Shape m) (z : sizesGood m ≡ true) (k : broken m ≡ 
       map-back cardOf rowOf (m .cards)
       (λ row r.
       let spot = getD-mem (m .cards) [] r in
-      let long : length row ≡ 26 = rw (spot .2) at (sh .rows (spot .0) (spot .1)) in
-      let few : linkCount row ≤ 8 = omega (arith, row-count m u row r, threshold-eight (storeOf m) (u .store .a)) in
+      let long : length row ≡ rowSize = rw (spot .2) at (sh .rows (spot .0) (spot .1)) in
+      let few : linkCount row ≤ linkLimit = omega (arith, row-count m u row r, threshold-eight (storeOf m) (u .store .a)) in
       row-back row (row-good m u row r) long few
-      (all-at (λ x. allZero (drop (2 + 3 * linkCount x) x)) (m .cards) (unused m u .rows) r))
+      (all-at (λ x. allZero (rowRest x)) (m .cards) (unused m u .rows) r))
 
   laid : List (List ℕ)
   laid = parts (placesIn (m .area)) 4 (m .lists)
 
   part-laid : (n : ℕ) → n < 4 → listPart m n ≡ getD laid n []
-  unfolding listPart laid
+  unfolding laid
   part-laid n h = sym (getD-parts (placesIn (m .area)) 4 (m .lists) n h)
 
   length-laid : (n : ℕ) → n < 4 → length (getD laid n []) ≡ placesIn (m .area)
@@ -190,7 +192,7 @@ module _ (m : Lent) (sh : Shape m) (z : sizesGood m ≡ true) (k : broken m ≡ 
       rw (length-places, four) (unfold laid in flat-parts (placesIn (m .area)) 4 (m .lists) (sizes m z .lists))
 
   head-back : lentOf (storeOf m) .head ≡ m .head
-  unfolding lentOf storeOf listLength
+  unfolding lentOf storeOf
   head-back =
       let g = unused m (unbroken m k) in
       rw (

@@ -8,8 +8,8 @@ use native.Mathlib.Omega.{arith}
 use borrow.Author.Tests.{ltb-true, eqb-false, ne-eqb}
 use lib.Dec.{ltb, eqb}
 use lib.ListN.{length, length-drop}
-use Rattle.number.specs.Number.{Bytes}
-use Rattle.number.proofs.Laws.{numberAt-bound, bytes-drop}
+use Rattle.coding.specs.Number.{Bytes}
+use Rattle.coding.proofs.NumberLaws.{numberAt-bound, bytes-drop}
 use Rattle.table.specs.Entry.{Entry}
 use Rattle.table.specs.Limits.{tableLimit, valueLimit}
 use Rattle.table.specs.Search.{find}

@@ -1,5 +1,5 @@
--- A reply has 6 to 1,024 bytes, and says its length and its result. Its body is empty, a value of at most 48 bytes, at most 16 entries
--- of at most 60 bytes behind four, or a few two-byte numbers: by the ways out of `serve`, one after the other.
+-- A reply has 6 to 1,024 bytes, and says its length and its result. Its body is empty, a value, at most 16 entries behind four
+-- bytes, or a few two-byte numbers: by the ways out of `serve`, one after the other.
 use Prim.Native.Nat.{ℕ, _+_, _≤_, _<_}
 use mathlib.Core.Path.{_≡_, refl, _∙_, ap}
 use mathlib.Core.List.{List, [], _∷_, _++_, append-assoc}
@@ -8,8 +8,8 @@ use mathlib.Core.Option.{some}
 use native.Mathlib.Omega.{arith}
 use lib.Dec.{eqb, ltb}
 use lib.ListN.{length, take, drop, length-append, length-take}
-use Rattle.number.specs.Number.{bytesOf}
-use Rattle.number.proofs.Laws.{length-bytesOf, numberAt-there}
+use Rattle.coding.specs.Number.{bytesOf}
+use Rattle.coding.proofs.NumberLaws.{length-bytesOf, numberAt-there}
 use Rattle.table.specs.Limits.{valueLimit, tableLimit}
 use Rattle.table.specs.Entry.{Entry, valueBytes, lengthAt}
 use Rattle.table.specs.Search.{find}
@@ -105,7 +105,7 @@ report-short : (s : Store) → Short (serveReport s)
 unfolding serveReport bytesOf
 report-short s = omega arith
 
--- At most 16 entries of at most 60 bytes.
+-- At most 16 entries, each as long as may be.
 pub scan-short : (es : List Entry) → Values es → length (scanBody es) ≤ 1018
 unfolding scanBody
 scan-short es h =

@@ -7,8 +7,8 @@ use mathlib.Core.Logic.{⊎-elim}
 use mathlib.Core.Option.{Option, some, none, Option·map}
 use lib.Dec.{leb, eqb}
 use lib.ListN.{length, drop}
-use Rattle.number.specs.Number.{Bytes}
-use Rattle.number.proofs.Laws.{numberAt-bound, bytes-take, bytes-drop}
+use Rattle.coding.specs.Number.{Bytes}
+use Rattle.coding.proofs.NumberLaws.{numberAt-bound, bytes-take, bytes-drop}
 use Rattle.table.specs.Entry.{lengthAt}
 use Rattle.ldc.specs.Request.{Request}
 use Rattle.ldc.specs.Run.{listLimit, requestAt, wholeAt, splitAt, split}

@@ -14,7 +14,7 @@ use Rattle.ldc.specs.Rules.{Hung, apart, allApart}
 use Rattle.ldc.specs.Tidy.{greatest}
 use Rattle.ldc.proofs.Basics.Cases.{cases, clash, both, both-left, both-right, either-left, either-right}
 use Rattle.ldc.proofs.Steps.Ranges.{Assigned}
-use Rattle.ldc.proofs.Stores.Spans.{Spans}
+use Rattle.ldc.specs.Facts.{Spans}
 
 module _ {A : Type 0} where
   pub all-append-left : (t : A → Bool) (xs ys : List A) → all t (xs ++ ys) ≡ true → all t xs ≡ true

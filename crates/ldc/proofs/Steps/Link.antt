@@ -31,7 +31,8 @@ use Rattle.ldc.proofs.Steps.Ranges.{gained, Assigned}
 use Rattle.ldc.proofs.Basics.Replaced.{split, replaced-counted}
 use Rattle.ldc.proofs.Stores.Sound.{Sound, TablePlace}
 use Rattle.ldc.proofs.Steps.StepFacts.{slice-member}
-use Rattle.ldc.proofs.Stores.Spans.{Spans, spans-rise, spans-without}
+use Rattle.ldc.proofs.Stores.Spans.{spans-rise, spans-without}
+use Rattle.ldc.specs.Facts.{Spans}
 
 module _ (s : Store) (S : Sound s) (n p : ℕ) (below : n ≤ 2) (m : List·Memᴰ p (level s n)) (bare : links s p ≡ [])
     (some-below : isEmpty (level s (suc n)) ≡ false) (undue : (q : ℕ) → List·Memᴰ q (level s (suc n)) → length (links s q) < s .threshold) where

@@ -19,7 +19,8 @@ use Rattle.ldc.proofs.Basics.Cases.{cases, clash}
 use Rattle.ldc.proofs.Entries.Finds.{orElse, orElse-assoc, find-append, find-within}
 use Rattle.ldc.proofs.Entries.Keys.{find-above}
 use Rattle.ldc.proofs.Steps.Ranges.{gained, Assigned}
-use Rattle.ldc.proofs.Stores.Spans.{Readable, Spans, reads, read-outside}
+use Rattle.ldc.proofs.Stores.Spans.{Readable, reads, read-outside}
+use Rattle.ldc.specs.Facts.{Spans}
 
 pub empty-list : {A : Type 0} (xs : List A) → isEmpty xs ≡ true → xs ≡ []
 empty-list [] h = refl

@@ -17,7 +17,7 @@ use Rattle.ldc.specs.Tidy.{greatest}
 use Rattle.ldc.proofs.Basics.Cases.{cases, clash, both, both-left, both-right, not-both}
 use Rattle.ldc.proofs.Entries.Keys.{head-below}
 use Rattle.ldc.proofs.Steps.Ranges.{gained, Assigned}
-use Rattle.ldc.proofs.Stores.Spans.{Spans}
+use Rattle.ldc.specs.Facts.{Spans}
 
 -- A range that holds an entry is not upside down.
 pub range-order : (from to : ℕ) (es : List Entry) → isEmpty (within from to es) ≡ false → from ≤ to

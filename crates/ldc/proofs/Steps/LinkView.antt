@@ -24,8 +24,9 @@ use Rattle.ldc.proofs.Steps.Move.{replaced-member}
 use Rattle.ldc.proofs.Stores.Order.{newest, view, given, view-two}
 use Rattle.ldc.proofs.Steps.Ranges.{Assigned}
 use Rattle.ldc.proofs.Stores.Sound.{Sound}
-use Rattle.ldc.proofs.Stores.Spans.{Spans, reads}
-use Rattle.ldc.proofs.Stores.TakenOut.{givenBut, Oldest, taken-out}
+use Rattle.ldc.proofs.Stores.Spans.{reads}
+use Rattle.ldc.proofs.Stores.TakenOut.{givenBut, taken-out}
+use Rattle.ldc.specs.Facts.{Spans, Oldest}
 
 module _ (s : Store) (S : Sound s) (n p : ℕ) (below : n ≤ 2) (m : List·Memᴰ p (level s n)) (bare : links s p ≡ []) (some-below : isEmpty (level s (suc n)) ≡ false) where
   abbrev after : Store

@@ -26,9 +26,10 @@ use Rattle.ldc.proofs.Steps.MergeShape.{merged-keys, merged-pieces, tab
 use Rattle.ldc.proofs.Stores.Naming.{named-intro, named-elim, agree}
 use Rattle.ldc.proofs.Basics.Replaced.{Split, split, replaced-counted}
 use Rattle.ldc.proofs.Stores.Sound.{Sound, TablePlace}
-use Rattle.ldc.proofs.Stores.Spans.{Spans, spans-rise}
+use Rattle.ldc.proofs.Stores.Spans.{spans-rise}
 use Rattle.ldc.proofs.Stores.TableLaws.{tableBytes-place}
 use Rattle.ldc.proofs.Stores.Written.{Wrote, wrote-occupied, wrote-stored, taken-or-kept, map-member}
+use Rattle.ldc.specs.Facts.{Spans}
 
 -- Of three levels one loses some links.
 apart-three : (n : ℕ) → 1 ≤ n → n ≤ 3 → (h h′ : ℕ → List Hung) (xs ys zs : List Hung)

@@ -30,7 +30,8 @@ use Rattle.ldc.proofs.Steps.MergeShape.{sources-keys, p-occupied, merge
 use Rattle.ldc.proofs.Stores.Order.{newest, view, given, bare-sources, value-orElse, view-values}
 use Rattle.ldc.proofs.Basics.Replaced.{member-reverse}
 use Rattle.ldc.proofs.Stores.Sound.{Sound}
-use Rattle.ldc.proofs.Stores.Spans.{Spans, spans-from, reads, find-reads, reads-apart}
+use Rattle.ldc.proofs.Stores.Spans.{spans-from, reads, find-reads, reads-apart}
+use Rattle.ldc.specs.Facts.{Spans}
 
 -- What is read of tables without links.
 reads-bare : (s : Store) (qs : List ℕ) → ((q : ℕ) → List·Memᴰ q qs → links s q ≡ []) → reads s qs ≡ flat (map (table s) qs)

@@ -25,8 +25,9 @@ use Rattle.ldc.proofs.Stores.Frame.{hungIn, hungIn-same, spansRise-same
 use Rattle.ldc.proofs.Stores.Order.{newest, view, given, view-two, bare-sources}
 use Rattle.ldc.proofs.Basics.Replaced.{Split, split, replaced-counted}
 use Rattle.ldc.proofs.Stores.Sound.{Sound}
-use Rattle.ldc.proofs.Stores.TakenOut.{givenBut, Oldest, taken-out}
-use Rattle.ldc.proofs.Stores.Spans.{reads, Spans, spans-rise, spans-without}
+use Rattle.ldc.proofs.Stores.TakenOut.{givenBut, taken-out}
+use Rattle.ldc.proofs.Stores.Spans.{reads, spans-rise, spans-without}
+use Rattle.ldc.specs.Facts.{Oldest, Spans}
 
 -- A member of what is left was a member.
 pub replaced-member : (q p : ℕ) (ps : List ℕ) → List·Memᴰ p ps → List·Memᴰ q (replaced p [] ps) → List·Memᴰ q ps

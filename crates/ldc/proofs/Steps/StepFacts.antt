@@ -19,7 +19,7 @@ use Rattle.ldc.proofs.Steps.LinkReads.{empty-list}
 use Rattle.ldc.proofs.Basics.ListLaws.{all-at, mem-getD}
 use Rattle.ldc.proofs.Steps.Ranges.{reaches}
 use Rattle.ldc.proofs.Stores.Sound.{Sound}
-use Rattle.ldc.proofs.Stores.TakenOut.{Oldest}
+use Rattle.ldc.specs.Facts.{Merging, Chosen}
 
 -- ---- what is found, and what is kept
 
@@ -148,20 +148,6 @@ first-bare s (q ∷ qs) p h e =
     let r : q ≡ p = cc in (qs, rw r)
 
 -- ---- the steps
-
--- A table that is merged stands on levels 1 to 3.
-pub record Merging (s : Store) (n p : ℕ) : Type 0 where
-  pub lowest : 1 ≤ n
-  pub highest : n ≤ 3
-  pub on : List·Memᴰ p (level s n)
-
--- A table chosen from levels 0 to 2 has no links, on level 0 it is the oldest, and no table below is due.
-pub record Chosen (s : Store) (n p : ℕ) : Type 0 where
-  pub highest : n ≤ 2
-  pub on : List·Memᴰ p (level s n)
-  pub bare : links s p ≡ []
-  pub oldest : Oldest s n p
-  pub calm : (q : ℕ) → List·Memᴰ q (level s (suc n)) → length (links s q) < s .threshold
 
 module _ (s : Store) (S : Sound s) where
   pub due-merging : (d : Spot) → dueTable s ≡ some d → Merging s (d .on) (d .place)

@@ -15,8 +15,9 @@ use Rattle.ldc.proofs.Basics.Cases.{cases, both, both-left, both-right}
 use Rattle.ldc.proofs.Stores.CardFacts.{live-not-free}
 use Rattle.ldc.proofs.Basics.Counts.{one, total, howMany-flat, member-counted}
 use Rattle.ldc.proofs.Stores.Sound.{Sound}
-use Rattle.ldc.proofs.Stores.Spans.{Readable, Spans, rise-all}
+use Rattle.ldc.proofs.Stores.Spans.{Readable, rise-all}
 use Rattle.ldc.proofs.Stores.TableLaws.{place-valid, place-some}
+use Rattle.ldc.specs.Facts.{Spans}
 
 -- ---- rule A
 

@@ -84,8 +84,8 @@ pub record Beside (s s′ : Store) : Type 0 where
   pub same-cursor : s′ .cursor ≡ s .cursor
   pub same-memory : s′ .memory ≡ s .memory
 
-pub hang-beside : (rs : List Slice) (s : Store) → Beside s (hang rs s)
-hang-beside [] s = record {
+pub beside-itself : (s : Store) → Beside s s
+beside-itself s = record {
   same-size = refl;
   same-places = refl;
   same-levels = refl;
@@ -94,15 +94,20 @@ hang-beside [] s = record {
   same-cursor = refl;
   same-memory = refl;
 }
+
+pub beside-card : (s s′ : Store) (p : ℕ) (c : Card) → Beside (withCard p c s) s′ → Beside s s′
+beside-card s s′ p c b = record {
+  same-size = b .same-size ∙ size-withCard s p c;
+  same-places = b .same-places;
+  same-levels = b .same-levels;
+  same-marks = b .same-marks;
+  same-threshold = b .same-threshold;
+  same-cursor = b .same-cursor;
+  same-memory = b .same-memory;
+}
+
+pub hang-beside : (rs : List Slice) (s : Store) → Beside s (hang rs s)
+hang-beside [] s = beside-itself s
 hang-beside (r ∷ rs) s =
     let c : Card = live (links s (r .on) ++ (linkOf r ∷ [])) in
-    let b = hang-beside rs (withCard (r .on) c s) in
-    record {
-      same-size = b .same-size ∙ size-withCard s (r .on) c;
-      same-places = b .same-places;
-      same-levels = b .same-levels;
-      same-marks = b .same-marks;
-      same-threshold = b .same-threshold;
-      same-cursor = b .same-cursor;
-      same-memory = b .same-memory;
-    }
+    beside-card s (hang rs (withCard (r .on) c s)) (r .on) c (hang-beside rs (withCard (r .on) c s))

@@ -14,6 +14,7 @@ use Rattle.ldc.specs.Store.{free, newStore, size, card, links, linksOf, 
 use Rattle.ldc.specs.Rules.{thresholdGood, ruleA, timesListed, hungOn, named}
 use Rattle.ldc.specs.Lent.{Lent, sizesGood, placesIn, chop, lentOf}
 use Rattle.ldc.specs.Run.{make}
+use Rattle.ldc.specs.Layout.{mostPlaces, fewestPlaces}
 use Rattle.ldc.proofs.Basics.Cases.{clash}
 use Rattle.ldc.proofs.Stores.Sound.{Sound, Whole}
 use Rattle.ldc.proofs.Basics.ListLaws.{parts, length-parts, each-part}
@@ -45,7 +46,7 @@ module _ (t : ℕ) (places : List (List ℕ)) where
   new-level (suc (suc (suc zero))) = refl
   new-level (suc (suc (suc (suc n)))) = refl
 
-  pub new-sound : 16 ≤ length places → length places ≤ 4096 → thresholdGood t ≡ true → Sound (newStore t places)
+  pub new-sound : fewestPlaces ≤ length places → length places ≤ mostPlaces → thresholdGood t ≡ true → Sound (newStore t places)
   new-sound few many good = record {
     fewest = rw new-size few;
     most = rw new-size many;

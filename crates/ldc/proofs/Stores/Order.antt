@@ -10,7 +10,8 @@ use Rattle.ldc.specs.Lists.{flat}
 use Rattle.ldc.specs.Store.{Store, level, links, table, sources, spanStart}
 use Rattle.ldc.specs.Read.{readOrder, valueOf}
 use Rattle.ldc.proofs.Entries.Finds.{orElse, orElse-assoc, find-append}
-use Rattle.ldc.proofs.Stores.Spans.{Readable, Spans, spans-from, reads, reads-flat, reads-apart, find-reads, flat-append, orElse-swap}
+use Rattle.ldc.proofs.Stores.Spans.{Readable, spans-from, reads, reads-flat, reads-apart, find-reads, flat-append, orElse-swap}
+use Rattle.ldc.specs.Facts.{Spans}
 
 -- What is read of some tables of level 0, newest first.
 abbrev pub newest : Store → List ℕ → List Entry

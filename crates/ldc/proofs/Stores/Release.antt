@@ -12,7 +12,7 @@ use Rattle.ldc.specs.Rules.{named}
 use Rattle.ldc.specs.Steps.{release}
 use Rattle.ldc.proofs.Basics.Cases.{cases}
 use Rattle.ldc.proofs.Stores.Changes.{card-same, card-other, size-withCard}
-use Rattle.ldc.proofs.Stores.Hang.{Beside}
+use Rattle.ldc.proofs.Stores.Hang.{Beside, beside-itself, beside-card}
 use Rattle.ldc.proofs.Stores.Naming.{named-same}
 
 -- Places of the store whose cards hold no links.
@@ -59,25 +59,8 @@ release-card (f ∷ fs) s b q =
     (λ t. rw (t, card-other s f free q (eqb-false q f t))))))
 
 pub release-beside : (fs : List ℕ) (s : Store) → Beside s (release fs s)
-release-beside [] s = record {
-  same-size = refl;
-  same-places = refl;
-  same-levels = refl;
-  same-marks = refl;
-  same-threshold = refl;
-  same-cursor = refl;
-  same-memory = refl;
-}
+release-beside [] s = beside-itself s
 release-beside (f ∷ fs) s =
     cases (named s f)
     (λ e. rw e (release-beside fs s))
-    (λ e. let b = release-beside fs (withCard f free s) in
-    rw e (record {
-      same-size = b .same-size ∙ size-withCard s f free;
-      same-places = b .same-places;
-      same-levels = b .same-levels;
-      same-marks = b .same-marks;
-      same-threshold = b .same-threshold;
-      same-cursor = b .same-cursor;
-      same-memory = b .same-memory;
-    }))
+    (λ e. rw e (beside-card s (release fs (withCard f free s)) f free (release-beside fs (withCard f free s))))

@@ -5,12 +5,13 @@ use mathlib.Core.Path.{_≡_}
 use mathlib.Core.List.{List, [], _++_, List·Memᴰ}
 use mathlib.Core.Bool.{true, false, cond}
 use lib.ListN.{length}
-use Rattle.number.specs.Number.{Bytes}
+use Rattle.coding.specs.Number.{Bytes}
 use Rattle.table.specs.Limits.{placeSize}
 use Rattle.table.specs.Table.{isTable}
 use Rattle.table.specs.Valid.{Valid}
 use Rattle.ldc.specs.Store.{Link, Store, size, card, links, isFree, isLive, isFrozen, bytesAt, level}
 use Rattle.ldc.specs.Rules.{ruleA, timesListed, linkGood, hungOn, allApart, named, spansRise}
+use Rattle.ldc.specs.Layout.{levelCount, mostPlaces, fewestPlaces}
 
 -- Bytes that are a table in a place.
 pub record TablePlace (b : List ℕ) : Type 0 where
@@ -20,10 +21,10 @@ pub record TablePlace (b : List ℕ) : Type 0 where
 
 pub record Sound (s : Store) : Type 0 where
   -- sizes
-  pub fewest : 16 ≤ size s
-  pub most : size s ≤ 4096
+  pub fewest : fewestPlaces ≤ size s
+  pub most : size s ≤ mostPlaces
   pub placed : length (s .places) ≡ size s
-  pub four : length (s .levels) ≡ 4
+  pub four : length (s .levels) ≡ levelCount
   pub two : length (s .marks) ≡ 2
   -- A to D
   pub ruleA-kept : ruleA s ≡ true

@@ -8,13 +8,14 @@ use native.Mathlib.Omega.{arith}
 use borrow.Author.Tests.{leb-true, lt-ltb, ltb-true, ltb-false, eq-eqb, eqb-true, ne-eqb}
 use lib.Dec.{leb, ltb, eqb}
 use lib.ListN.{length, List·getD-eq-default}
-use Rattle.number.specs.Number.{Bytes}
+use Rattle.coding.specs.Number.{Bytes}
 use Rattle.table.specs.Table.{isTable}
 use Rattle.table.specs.Valid.{Valid}
 use Rattle.table.proofs.Tests.{and-parts, cases}
 use Rattle.ldc.specs.Lists.{all, any, isEmpty, flat, allFrom}
 use Rattle.ldc.specs.Store.{Link, free, Store, size, card, links, linksOf, isFree, isLive, isFrozen, bytesAt, level}
 use Rattle.ldc.specs.Rules.{thresholdGood, ruleA, ruleB, ruleC, ruleE, ruleF, ruleG, timesListed, linkGood, hungOn, allApart, named, spansRise}
+use Rattle.ldc.specs.Layout.{levelCount, mostPlaces, fewestPlaces, linkLimit}
 use Rattle.ldc.proofs.Stores.Sound.{Sound, Whole, TablePlace}
 use Rattle.ldc.proofs.Basics.ListLaws.{all-at, all-of, any-at, getD-mem, below-at, below-of, howMany-mem, howMany-zero}
 
@@ -42,7 +43,7 @@ empty-nil [] h = refl
 empty-nil (x ∷ xs) h = absurd (true≢false (sym h))
 
 -- Rule A bounds the threshold.
-pub threshold-eight : (s : Store) → ruleA s ≡ true → s .threshold ≤ 8
+pub threshold-eight : (s : Store) → ruleA s ≡ true → s .threshold ≤ linkLimit
 unfolding ruleA thresholdGood
 threshold-eight s h =
     leb-true _ _ (and-parts (leb 1 (s .threshold)) _ (and-parts (thresholdGood (s .threshold)) (ltb (s .cursor) (size s)) h .0) .1)
@@ -155,7 +156,7 @@ module _ (s : Store) where
         (λ n. rw n (named-frozen p n))
         (λ n. rw (far, n)))
 
-  rising-of : ruleG s ≡ true → length (s .levels) ≡ 4 → (n : ℕ) → spansRise s (level s (suc n)) ≡ true
+  rising-of : ruleG s ≡ true → length (s .levels) ≡ levelCount → (n : ℕ) → spansRise s (level s (suc n)) ≡ true
   unfolding ruleG level
   rising-of g four zero = and-parts (spansRise s (level s 1)) _ g .0
   rising-of g four (suc zero) = and-parts (spansRise s (level s 2)) _ (and-parts (spansRise s (level s 1)) _ g .1) .0
@@ -173,10 +174,10 @@ pub record Kept (s : Store) : Type 0 where
 
 -- The sizes of a store.
 pub record Sized (s : Store) : Type 0 where
-  pub fewest : 16 ≤ size s
-  pub most : size s ≤ 4096
+  pub fewest : fewestPlaces ≤ size s
+  pub most : size s ≤ mostPlaces
   pub placed : length (s .places) ≡ size s
-  pub four : length (s .levels) ≡ 4
+  pub four : length (s .levels) ≡ levelCount
   pub two : length (s .marks) ≡ 2
 
 pub sound-of : (s : Store) → Sized s → Kept s → Valid (s .memory) → ((p : ℕ) → length (links s p) ≤ s .threshold)

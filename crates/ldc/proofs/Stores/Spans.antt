@@ -15,6 +15,7 @@ use Rattle.table.specs.Valid.{Keys}
 use Rattle.ldc.specs.Lists.{flat}
 use Rattle.ldc.specs.Store.{Link, Store, links, table, slice, sources, spanStart, spanEnd, leastEnd, greatestEnd}
 use Rattle.ldc.specs.Rules.{spansRise}
+use Rattle.ldc.specs.Facts.{Spans}
 use Rattle.ldc.proofs.Basics.Cases.{cases, both-left, both-right, both}
 use Rattle.ldc.proofs.Entries.Finds.{orElse, orElse-assoc, find-append, find-within}
 use Rattle.ldc.proofs.Entries.Keys.{find-below, find-above}
@@ -124,11 +125,6 @@ module _ (s : Store) (p : ℕ) (r : Readable s p) where
       (find-append k (table s p) [] ∙ rw none-own)
 
 -- ---- a level
-
--- Spans that rise from `low` on.
-abbrev pub Spans : Store → (low : ℕ) → List ℕ → Type 0
-Spans s low [] = Unit {0}
-Spans s low (p ∷ ps) = (low ≤ spanStart s p) × (spanStart s p ≤ spanEnd s p) × Spans s (suc (spanEnd s p)) ps
 
 pub spans-rise : (s : Store) (low : ℕ) (ps : List ℕ) → Spans s low ps → spansRise s ps ≡ true
 spans-rise s low [] h = refl

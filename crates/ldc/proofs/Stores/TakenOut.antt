@@ -14,16 +14,13 @@ use Rattle.ldc.proofs.Entries.Finds.{orElse}
 use Rattle.ldc.proofs.Stores.Order.{newest, given, bare-sources, oldest-out, table-out}
 use Rattle.ldc.proofs.Basics.Replaced.{split}
 use Rattle.ldc.proofs.Stores.Sound.{Sound}
-use Rattle.ldc.proofs.Stores.Spans.{Readable, Spans, reads}
+use Rattle.ldc.proofs.Stores.Spans.{Readable, reads}
+use Rattle.ldc.specs.Facts.{Spans, Oldest}
 
 -- What a level gives to a key without one of its tables.
 abbrev pub givenBut : Store → (level place key : ℕ) → Option Entry
 givenBut s zero p k = find k (newest s (replaced p [] (level s 0)))
 givenBut s (suc n) p k = find k (reads s (replaced p [] (level s (suc n))))
-
--- On level 0 the chosen table is the oldest.
-abbrev pub Oldest : Store → (level place : ℕ) → Type 0
-Oldest s n p = n ≡ 0 → (qs : List ℕ) × (level s 0 ≡ p ∷ qs)
 
 pub taken-out : (s : Store) → Sound s → (n p : ℕ) → List·Memᴰ p (level s n) → links s p ≡ [] → Oldest s n p → (k : ℕ) (rest : Option Entry)
     → orElse (given s n k) rest ≡ orElse (givenBut s n p k) (orElse (find k (table s p)) rest)

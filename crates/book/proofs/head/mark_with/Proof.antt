@@ -1,6 +1,6 @@
 -- `mark_with` meets its contract.
 use borrow.Author.Tests.{eq-eqb, ne-eqb}
-use Rattle.ldc.specs.Lent.{markOf}
+use Rattle.ldc.specs.Layout.{markOf}
 use Rattle.book.proofs.head.mark_with.Statement.{statement}
 use Rattle.book.proofs.head.mark_with.Tie as tie
 

@@ -1,4 +1,4 @@
--- `bytes_line` meets its contract: the text of 16 bytes has 48, as many as there is room for.
+-- `bytes_line` meets its contract: the text of 16 bytes has as many as there is room for.
 use Prim.Native.Nat.{ℕ, _*_, _≤_}
 use mathlib.Core.Path.{_≡_, sym}
 use native.Mathlib.Omega.{arith}
@@ -7,7 +7,7 @@ use lib.Seq.{length-take-le}
 use Rattle.formats.proofs.lines.bytes_line.Statement.{statement}
 use Rattle.formats.proofs.lines.bytes_line.Tie as tie
 
-room : (n m : ℕ) → n ≤ 16 → m ≡ 48 → 3 * n ≤ m
+room : (n m : ℕ) → n ≤ 16 → m ≡ 3 * 16 → 3 * n ≤ m
 room n m h e = omega arith
 
 slice-aggregate-put-bytes : tie.Need-slice-aggregate-put-bytes

@@ -1,6 +1,6 @@
 -- `find_line` meets its contract: the table of the two may be searched.
 use borrow.Author.Needs.{needs}
-use Rattle.examples.proofs.Built.{two-size, two-memory}
+use Rattle.formats.proofs.Built.{two-size, two-memory}
 use Rattle.formats.proofs.lines.find_line.Statement.{statement}
 use Rattle.formats.proofs.lines.find_line.Tie as tie
 

@@ -1,6 +1,6 @@
 -- `finds` meets its contract: the table of the two has a least key and a greatest.
 use borrow.Author.Needs.{needs}
-use Rattle.examples.proofs.Built.{two-size, two-table}
+use Rattle.formats.proofs.Built.{two-size, two-table}
 use Rattle.formats.proofs.lines.finds.Statement.{statement}
 use Rattle.formats.proofs.lines.finds.Tie as tie
 

@@ -2,7 +2,7 @@
 use borrow.Author.Needs.{needs}
 use lib.Dec.{lit≤}
 use Rattle.table.proofs.Room.{in-place}
-use Rattle.examples.proofs.Built.{two-size}
+use Rattle.formats.proofs.Built.{two-size}
 use Rattle.formats.proofs.lines.rows.Statement.{statement}
 use Rattle.formats.proofs.lines.rows.Tie as tie
 

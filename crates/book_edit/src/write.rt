@@ -1,0 +1,60 @@
+// Taking places and writing tables to them.
+ghost use mathlib.Core.Path.{_≡_};
+ghost use Prim.Native.Nat.{_*_, _≤_, _<_};
+ghost use lib.ListN.{length};
+ghost use lib.Seq.{sets};
+ghost use Rattle.table.specs.Limits.{placeSize};
+ghost use Rattle.book.specs.Head.{headWords};
+ghost use Rattle.book.specs.Place.{freeRows};
+ghost use Rattle.book_edit.specs.Take.{Takes};
+use book::head::Head;
+use book::row::Row;
+use book_places::take::Position;
+use table::limits;
+use table_builder::place;
+
+// A place that was taken, and the head after it.
+pub struct Taken {
+    pub place: usize,
+    pub head: Head,
+}
+
+// Takes the first free place from the cursor on, going round: its card becomes live without links, and the cursor the place after it.
+// Every place is taken here, through the position that is lent for it.
+pub fn take(cards: &mut [Row], mut head: Head) -> Taken
+    requires { ⌜ (head .cursor < length (now cards)) × (1 ≤ freeRows (now cards)) ⌝ }
+    ensures { λ r. ⌜ Takes (now (cards .entry)) (headWords head) (now (cards .exit)) (headWords (r .head)) (r .place) ⌝ }
+{
+    let key1 = head.key1;
+    let key2 = head.key2;
+    let from = Position {
+        cursor: head.cursor,
+        flag1: head.flag1,
+        key1,
+        flag2: head.flag2,
+        key2,
+    };
+    let taken = book_places::take::take(cards, from);
+    let to = taken.position;
+    head.cursor = to.cursor;
+    Taken {
+        place: taken.place,
+        head,
+    }
+}
+
+// Takes a place and writes a whole table to it; the rest of the area stays.
+pub fn write_table(area: &mut [u8], cards: &mut [Row], head: Head, table: &[u8]) -> Taken
+    requires { ⌜
+        (length (now area) ≡ length (now cards) * placeSize)
+        × ((length (now table) ≡ placeSize) × ((head .cursor < length (now cards)) × (1 ≤ freeRows (now cards))))
+        ⌝ }
+    ensures { λ r. ⌜
+        Takes (now (cards .entry)) (headWords head) (now (cards .exit)) (headWords (r .head)) (r .place)
+        × (now (area .exit) ≡ sets (now (area .entry)) (r .place * placeSize) (now (table .entry)))
+        ⌝ }
+{
+    let taken = take(cards, head);
+    place::write_place(area, taken.place * limits::PLACE_SIZE, table);
+    taken
+}

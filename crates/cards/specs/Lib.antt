@@ -1,2 +1,0 @@
--- What a reader of `cards` must believe besides the definition of the store: the words of a card that is lent as a struct.
-pub mod Card

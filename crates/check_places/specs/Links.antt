@@ -1,0 +1,52 @@
+-- Rule C, and what rules E and F say of links, as they are walked.
+use Prim.Native.Nat.{ℕ}
+use mathlib.Core.List.{List, [], map}
+use mathlib.Core.Bool.{Bool, cond, _&&_, _||_}
+use lib.Dec.{leb, eqb}
+use lib.ListN.{length, getD}
+use Rattle.table.specs.Table.{isTable, zeros, placeOf}
+use Rattle.ldc.specs.Lists.{all, flat, isEmpty, allFrom}
+use Rattle.ldc.specs.Store.{isFree, isFrozen}
+use Rattle.ldc.specs.Rules.{linkGood}
+use Rattle.ldc.specs.Layout.{linkCount, cardOf, itemsIn, mostPlaces, thresholdIn}
+use Rattle.book.specs.Rows.{linksOn, shownBy}
+use Rattle.book.specs.Row.{linksIn}
+use Rattle.check_walk.specs.Links.{levelsApart, linksMarked}
+
+-- Rule C: is a place free, or does it hold a table?
+unfoldable pub placeTabled : (area : List ℕ) → (cards : List (List ℕ)) → (p : ℕ) → Bool
+placeTabled area cards p = isFree (cardOf (getD cards p [])) || isTable (placeOf area p)
+
+unfoldable pub walkC : (area : List ℕ) → (cards : List (List ℕ)) → Bool
+walkC area cards = allFrom (length cards) 0 (placeTabled area cards)
+
+-- ---- rule E: each link by itself
+
+-- Has a row at most T links, all of them good?
+unfoldable pub rowHangs : (area : List ℕ) → (cards : List (List ℕ)) → (T : ℕ) → (row : List ℕ) → Bool
+rowHangs area cards t row = leb (linkCount row) t && all (linkGood (shownBy area cards)) (linksIn row)
+
+unfoldable pub cardsHang : (area : List ℕ) → (cards : List (List ℕ)) → (T : ℕ) → Bool
+cardsHang area cards t = all (rowHangs area cards t) cards
+
+-- Do these tables have no links?
+unfoldable pub bare : (cards : List (List ℕ)) → (items : List ℕ) → Bool
+bare cards items = all (λ p. isEmpty (linksOn cards p)) items
+
+-- Rule E.
+unfoldable pub walkE : (area : List ℕ) → (cards : List (List ℕ)) → (lists head : List ℕ) → Bool
+walkE area cards lists head =
+    cardsHang area cards (thresholdIn head)
+    && (bare cards (itemsIn (length cards) lists head 0) && levelsApart 3 1 cards lists head (zeros mostPlaces))
+
+-- ---- rule F
+
+-- Is a place marked exactly if it is frozen?
+unfoldable pub markFits : (cards : List (List ℕ)) → (marks : List ℕ) → (p : ℕ) → Bool
+markFits cards marks p = eqb (getD marks p 0) (cond (isFrozen (cardOf (getD cards p []))) 1 0)
+
+unfoldable pub marksFit : (cards : List (List ℕ)) → (marks : List ℕ) → Bool
+marksFit cards marks = allFrom (length cards) 0 (markFits cards marks)
+
+unfoldable pub walkF : (cards : List (List ℕ)) → Bool
+walkF cards = marksFit cards (linksMarked (zeros mostPlaces) (flat (map linksIn cards)))

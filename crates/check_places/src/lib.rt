@@ -1,0 +1,4 @@
+// The rules of the check that ask for places: B, C and F of document 01, "Sound store".
+pub mod rule_b;
+pub mod rule_c;
+pub mod rule_f;

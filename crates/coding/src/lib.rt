@@ -1,0 +1,4 @@
+// Numbers, keys and hexadecimal digits as bytes.
+pub mod hex;
+pub mod key;
+pub mod number;

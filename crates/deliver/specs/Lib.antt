@@ -1,3 +1,0 @@
--- What a reader of `deliver` must believe besides the definition of the store.
---   Whole   a list served whole over the program's new store, its answers in one piece, and what running it to its end returns
-pub mod Whole

@@ -1,0 +1,3 @@
+-- What a reader of `formats` must believe besides what `table` says.
+--   Examples   the examples of docs/FORMATS.md
+pub mod Examples

@@ -1,5 +1,0 @@
--- What the walks of `held` share.
---   Local   a local array of structs, lent as a slice for a call, and back
---   Lent    the same of 32 cards
-pub mod Local
-pub mod Lent

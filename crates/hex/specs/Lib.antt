@@ -1,3 +1,0 @@
--- What the contracts of `hex` cite.
---   Hex        bytes as text
-pub mod Hex

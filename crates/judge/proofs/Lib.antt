@@ -1,3 +1,0 @@
--- What the proofs here share:
---   Words   bytes that are looked at together
-pub mod Words

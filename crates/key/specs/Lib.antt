@@ -1,2 +1,0 @@
--- What the contracts of `key` cite.
-pub mod Key

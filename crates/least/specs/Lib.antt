@@ -1,2 +1,0 @@
--- What a reader of `least` must believe besides what `read` says: the least key from a point on.
-pub mod Least

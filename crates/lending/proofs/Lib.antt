@@ -1,3 +1,0 @@
--- What the walks of `lending` share.
---   Carry   the cards carried to the rows and back, around the store's own function
-pub mod Carry

@@ -1,3 +1,0 @@
--- The laws of `number`, for the proofs of its callers.
-pub mod Laws
-pub mod Sets

@@ -1,2 +1,0 @@
--- What the contracts of `number` cite.
-pub mod Number

@@ -1,0 +1,54 @@
+// One place of the area as a table: the searches of a table over its bytes.
+ghost use mathlib.Core.Path.{_≡_};
+ghost use Prim.Native.Nat.{_+_, _*_, _≤_};
+ghost use lib.ListN.{length};
+ghost use Rattle.table.specs.Limits.{placeSize, entryHead};
+ghost use Rattle.table.specs.Entry.{kindAt, keyAt};
+ghost use Rattle.table.specs.Table.{entries, placeOf};
+ghost use Rattle.table.specs.Search.{findIn, leastKey, greatestKey};
+ghost use Rattle.read.specs.Shown.{Tabled};
+use book::place::bytes_of;
+use coding::key::Key;
+use table::entry;
+use table::search;
+use table::search::Found;
+
+// The entry with this key.
+pub fn find(area: &[u8], p: usize, key: Key) -> Found
+    requires { ⌜ Tabled (now area) p ⌝ }
+    ensures { λ r. ⌜ r ≡ findIn (placeOf (now (area .entry)) p) (key .value) ⌝ }
+{
+    search::find(bytes_of(area, p), key)
+}
+
+// The least key.
+pub fn least(area: &[u8], p: usize) -> Key
+    requires { ⌜ Tabled (now area) p ⌝ }
+    ensures { λ r. ⌜ r .value ≡ leastKey (entries (placeOf (now (area .entry)) p)) ⌝ }
+{
+    search::least(bytes_of(area, p))
+}
+
+// The greatest key.
+pub fn greatest(area: &[u8], p: usize) -> Key
+    requires { ⌜ Tabled (now area) p ⌝ }
+    ensures { λ r. ⌜ r .value ≡ greatestKey (entries (placeOf (now (area .entry)) p)) ⌝ }
+{
+    search::greatest(bytes_of(area, p))
+}
+
+// The kind of the entry at a position.
+pub fn kind(area: &[u8], p: usize, at: usize) -> u16
+    requires { ⌜ (p * placeSize + placeSize ≤ length (now area)) × (at + 4 ≤ placeSize) ⌝ }
+    ensures { λ r. ⌜ r ≡ kindAt (placeOf (now (area .entry)) p) at ⌝ }
+{
+    entry::kind_at(bytes_of(area, p), at)
+}
+
+// The key of the entry at a position.
+pub fn key_of(area: &[u8], p: usize, at: usize) -> Key
+    requires { ⌜ (p * placeSize + placeSize ≤ length (now area)) × (at + entryHead ≤ placeSize) ⌝ }
+    ensures { λ r. ⌜ r .value ≡ keyAt (placeOf (now (area .entry)) p) at ⌝ }
+{
+    entry::key_at(bytes_of(area, p), at)
+}

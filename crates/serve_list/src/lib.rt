@@ -1,0 +1,3 @@
+// Serving a list of requests, one after the other.
+pub mod list;
+mod request;

@@ -1,0 +1,11 @@
+-- The laws of `serve_read`.
+--   Decided   the reply to a look-up, by the entry that decides
+--   Fills     a run of values of a range
+--   Reply     the reply to a scan
+--   Turn      one turn of the loop that counts cards
+--   Counted   the counts of the report
+pub mod Decided
+pub mod Fills
+pub mod Reply
+pub mod Turn
+pub mod Counted

@@ -1,0 +1,4 @@
+// Requests that read, with their replies.
+pub mod look_up;
+pub mod report;
+pub mod scan;

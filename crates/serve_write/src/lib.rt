@@ -1,0 +1,3 @@
+// Requests that write, with their replies.
+pub mod put;
+pub mod steps;

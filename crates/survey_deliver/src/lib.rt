@@ -1,0 +1,3 @@
+// Running a list to its end and handing on its answers, however little room for them there is.
+pub mod deliver;
+mod skip;

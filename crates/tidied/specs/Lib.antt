@@ -1,3 +1,0 @@
--- What a reader of `tidied` must believe besides the definition of the store.
---   Tidied   what a tidy gives, against the definition's step
-pub mod Tidied

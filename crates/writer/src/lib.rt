@@ -1,5 +1,0 @@
-// Writing to the store: places taken, tables written to them, level lists changed.
-//
-// Single writes are said of the lent pieces to the word; what they are in the store is said where a step is put together.
-pub mod level;
-pub mod taking;
