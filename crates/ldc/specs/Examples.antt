@@ -1,7 +1,7 @@
 -- The checked examples P1 to P10 of document 01, as one table: what the definition computes beside what document 01 says; and a
 -- second table with a case for each slip. `proofs/Demand/Examples` shows that each row agrees. What is expected stands in plain
 -- numbers, as in document 01.
-use Prim.Native.Nat.{ℕ, _-_}
+use Prim.Native.Nat.{ℕ, zero, suc, _+_, _-_, _%_}
 use mathlib.Core.List.{List, [], _∷_, _++_, map}
 use mathlib.Core.Bool.{Bool, true, _&&_}
 use mathlib.Core.Option.{some, none, Option·getD}
@@ -14,7 +14,7 @@ use Rattle.ldc.specs.Lists.{flat}
 use Rattle.ldc.specs.Store.{Link, Card, Store, free, live, frozen, newStore, card, level, table}
 use Rattle.ldc.specs.Request.{putKind, deleteKind, lookUpKind, flushKind, tidyKind, memoryFull, keySize}
 use Rattle.ldc.specs.Request.{Request, Served, replyBytes, done}
-use Rattle.ldc.specs.Tidy.{Slice, fullest, slicesOf, greatest}
+use Rattle.ldc.specs.Tidy.{Slice, overfull, slicesOf, greatest}
 use Rattle.ldc.specs.Steps.{doLink, sameBytes}
 use Rattle.ldc.specs.Serve.{serve}
 use Rattle.ldc.specs.History.{fed}
@@ -62,22 +62,42 @@ reply v = v .result ∷ v .body
 abbrev new : ℕ → Store
 new t = newStore t (replicate fewestPlaces (zeros placeSize))
 
--- ---- a planted store: level 1 has the tables 10..20, 30..40 and 50..60 in places 1, 2, 3, and place 0 is live on level 0 with these keys
+-- ---- planted stores
+
+-- A store of 16 places whose first ones hold these tables, with these cards and lists.
+abbrev plantedWith : (threshold : ℕ) → List (List Entry) → List Card → List (List ℕ) → Store
+plantedWith t tables cards levels = record {
+  threshold = t;
+  cursor = length tables % fewestPlaces;
+  marks = none ∷ none ∷ [];
+  levels = levels;
+  cards = cards ++ replicate (fewestPlaces - length tables) free;
+  places = map (λ es. tableBytes es) tables ++ replicate (fewestPlaces - length tables) (zeros placeSize);
+  memory = [];
+}
 
 abbrev tableOf : List ℕ → List Entry
 tableOf ks = map (λ k. record { key = k; value = some (65 ∷ []) }) ks
 
+-- Level 1 has the tables 10..20, 30..40 and 50..60 in places 1, 2, 3, and place 0 is live on level 0 with these keys.
 abbrev planted : (threshold : ℕ) → List ℕ → Store
-planted t ks = record {
-  threshold = t;
-  cursor = 4;
-  marks = none ∷ none ∷ [];
-  levels = (0 ∷ []) ∷ (1 ∷ 2 ∷ 3 ∷ []) ∷ [] ∷ [] ∷ [];
-  cards = replicate 4 (live []) ++ replicate (fewestPlaces - 4) free;
-  places = map (λ es. tableBytes es) (tableOf ks ∷ tableOf (10 ∷ 20 ∷ []) ∷ tableOf (30 ∷ 40 ∷ []) ∷ tableOf (50 ∷ 60 ∷ []) ∷ [])
-      ++ replicate (fewestPlaces - 4) (zeros placeSize);
-  memory = [];
-}
+planted t ks =
+    plantedWith t (tableOf ks ∷ tableOf (10 ∷ 20 ∷ []) ∷ tableOf (30 ∷ 40 ∷ []) ∷ tableOf (50 ∷ 60 ∷ []) ∷ []) (replicate 4 (live []))
+    ((0 ∷ []) ∷ (1 ∷ 2 ∷ 3 ∷ []) ∷ [] ∷ [] ∷ [])
+
+-- So many numbers from one on.
+abbrev countFrom : (n from : ℕ) → List ℕ
+countFrom zero i = []
+countFrom (suc n) i = i ∷ countFrom n (suc i)
+
+-- Levels 0 and 1 hold so many tables, in places from 0 up, each with its place for its one key.
+abbrev crowded : ℕ → ℕ → Store
+crowded a b =
+    plantedWith 4 (map (λ p. tableOf (p ∷ [])) (countFrom (a + b) 0)) (replicate (a + b) (live [])) (countFrom a 0 ∷ countFrom b a ∷ [] ∷ [] ∷ [])
+
+-- The level that is too full, and what a tidy replies.
+abbrev relieved : Store → List ℕ
+relieved s = Option·getD (overfull s) 9 ∷ reply (from s (askTidy ∷ []))
 
 abbrev rangeWords : List Slice → List ℕ
 rangeWords xs = flat (map (λ x. x .on ∷ x .low ∷ x .high ∷ []) xs)
@@ -88,10 +108,6 @@ linkedP7 t = let s : Store = planted t (5 ∷ 25 ∷ 70 ∷ []) in doLink 0 0 (s
 
 abbrev tidied : ℕ → List ℕ
 tidied n = let v : Served = from (linkedP7 1) (replicate n askTidy) in reply v ++ (stateWord (card (v .store) 0) ∷ [])
-
--- Levels 0 and 1 holding so many live tables.
-abbrev tablesOn : ℕ → ℕ → ℕ → ℕ
-tablesOn a b n = getD (a ∷ b ∷ []) n 0
 
 abbrev sixteen : List Request
 sixteen = map askPut (0 ∷ 1 ∷ 2 ∷ 3 ∷ 4 ∷ 5 ∷ 6 ∷ 7 ∷ 8 ∷ 9 ∷ 10 ∷ 11 ∷ 12 ∷ 13 ∷ 14 ∷ 15 ∷ [])
@@ -131,8 +147,8 @@ examples =
     ∷ record { computed = tidied 3; expected = 0 ∷ 3 ∷ 0 ∷ 1 ∷ 0 ∷ 0 ∷ [] }
     ∷ record { computed = tidied 4; expected = 65 ∷ 0 ∷ [] }
     -- P10 levels holding 3 of 2 and 12 of 8: level 0; with 13 of 8, level 1
-    ∷ record { computed = Option·getD (fullest (tablesOn 3 12) (0 ∷ 1 ∷ [])) 9 ∷ []; expected = 0 ∷ [] }
-    ∷ record { computed = Option·getD (fullest (tablesOn 3 13) (0 ∷ 1 ∷ [])) 9 ∷ []; expected = 1 ∷ [] }
+    ∷ record { computed = relieved (crowded 3 12); expected = 0 ∷ 0 ∷ 2 ∷ 0 ∷ 0 ∷ 0 ∷ [] }
+    ∷ record { computed = relieved (crowded 3 13); expected = 1 ∷ 0 ∷ 1 ∷ 0 ∷ 1 ∷ 0 ∷ [] }
     ∷ []
 
 -- ---- the slips that this store invites (document 01), each with a case that it would get wrong
@@ -142,18 +158,6 @@ entry k v = record { key = k; value = some (v ∷ []) }
 
 abbrev deleted : ℕ → Entry
 deleted k = record { key = k; value = none }
-
--- A store of 16 places whose first ones hold these tables, with these cards and lists.
-abbrev plantedWith : (threshold : ℕ) → List (List Entry) → List Card → List (List ℕ) → Store
-plantedWith t tables cards levels = record {
-  threshold = t;
-  cursor = length tables;
-  marks = none ∷ none ∷ [];
-  levels = levels;
-  cards = cards ++ replicate (fewestPlaces - length tables) free;
-  places = map (λ es. tableBytes es) tables ++ replicate (fewestPlaces - length tables) (zeros placeSize);
-  memory = [];
-}
 
 abbrev linkTo : ℕ → ℕ → ℕ → Link
 linkTo p low high = record { place = p; low = low; high = high }

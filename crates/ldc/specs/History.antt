@@ -2,7 +2,7 @@
 use Prim.Native.Nat.{ℕ, zero, suc, _+_, _*_, _≤_, _<_}
 use mathlib.Core.Path.{_≡_}
 use mathlib.Core.List.{List, [], _∷_, _++_, map, List·Memᴰ}
-use mathlib.Core.Bool.{true, cond, not, _&&_}
+use mathlib.Core.Bool.{Bool, cond, not, _&&_}
 use mathlib.Core.Option.{Option, some, none, Option·getD}
 use lib.Dec.{leb, eqb}
 use lib.ListN.{length, take, drop}
@@ -10,8 +10,8 @@ use Rattle.coding.specs.Number.{numberAt}
 use Rattle.table.specs.Entry.{Entry, lengthAt}
 use Rattle.table.specs.Search.{find}
 use Rattle.ldc.specs.Lists.{any, keep}
-use Rattle.ldc.specs.Store.{Link, Store, newStore, card, links, isLive, isFrozen, bytesAt, within}
-use Rattle.ldc.specs.Lent.{Lent, storeOf, placesIn}
+use Rattle.ldc.specs.Store.{Link, Store, newStore, card, links, isFrozen, bytesAt, within}
+use Rattle.ldc.specs.Lent.{Lent, storeOf, placesIn, broken}
 use Rattle.ldc.specs.Request.{putKind, deleteKind, lookUpKind, scanKind, tidyKind, doneResult, noValue, keySize}
 use Rattle.ldc.specs.Request.{Request, replyBytes, keyIn, highIn, valueIn}
 use Rattle.ldc.specs.Memtable.{put}
@@ -110,13 +110,17 @@ pub record Unmerged : Type 0 where
 unfoldable pub stepOf : Store → Request → Step
 stepOf s r = cond (eqb (r .kind) tidyKind && eqb (length (r .body)) 0) (tidyStep s) idle
 
+-- Does a slice hang on this place?
+abbrev pub hangsOn : (place : ℕ) → Unmerged → Bool
+hangsOn p u = eqb (u .slice .on) p
+
 -- A link adds each link that it makes. A merge takes away all that hang on the merged table's place. Nothing else changes the list.
 abbrev pub afterStep : Store → Step → List Unmerged → List Unmerged
 afterStep s idle us = us
 afterStep s refused us = us
 afterStep s (moved n p) us = us
 afterStep s (linked n p slices) us = us ++ map (λ x. record { slice = x; held = bytesAt s p }) slices
-afterStep s (merged n p) us = keep (λ u. not (eqb (u .slice .on) p)) us
+afterStep s (merged n p) us = keep (λ u. not (hangsOn p u)) us
 
 -- The rules worked through a list of requests, from a store on.
 abbrev pub unmerged : Store → List Unmerged → List Request → List Unmerged
@@ -136,13 +140,17 @@ linkOf u = record { place = u .slice .place; low = u .slice .low; high = u .slic
 pub record Holds (m : Lent) (threshold : ℕ) (es : List Event) (us : List Unmerged) : Type 0 where
   -- look-ups and scans answer as the latest-write map
   pub answered : Answered [] es
+  -- the memory is that of a sound store: every word of it is where and what the rules allow
+  pub sound : broken m ≡ []
   -- a card says frozen exactly if the list names the place
   pub frozen : (p : ℕ) → p < placesIn (m .area) → isFrozen (card (storeOf m) p) ≡ any (λ u. eqb (u .slice .place) p) us
   -- a frozen place has the bytes that it held when linked
   pub kept : (u : Unmerged) → List·Memᴰ u us → bytesAt (storeOf m) (u .slice .place) ≡ u .held
-  -- a table's links are the slices that hang on its place, oldest first, and never more than T
-  pub carried : (p : ℕ) → isLive (card (storeOf m) p) ≡ true → links (storeOf m) p ≡ map linkOf (keep (λ u. eqb (u .slice .on) p) us)
-  pub few : (p : ℕ) → length (links (storeOf m) p) ≤ threshold
+  -- a card's links are the slices that hang on its place, oldest first: on every place, so none hangs where no live table stands
+  pub carried : (p : ℕ) → links (storeOf m) p ≡ map linkOf (keep (hangsOn p) us)
+  -- never more than T slices hang on a table, nor links on its card
+  pub few : (p : ℕ) → length (keep (hangsOn p) us) ≤ threshold
+  pub fewLinks : (p : ℕ) → length (links (storeOf m) p) ≤ threshold
 
 -- Demand 3 of the history that begins with making a store over `m` with threshold `t`. The slice list is worked out over other places,
 -- as many, with any bytes: nothing of it is read from the store that was run.

@@ -16,8 +16,9 @@ use Rattle.ldc.specs.Read.{serveReport}
 use Rattle.ldc.specs.Layout.{linkCount, cardOf, levelCount, lengthIn}
 use Rattle.book.proofs.Rows.{count-of}
 use Rattle.read.specs.Shown.{Kept}
-use Rattle.serve_read.specs.Tally.{freeIn, frozenIn, linksCounted}
-use Rattle.wire.specs.Reply.{numbers}
+use Rattle.ldc.specs.Request.{reportKind, doneResult}
+use Rattle.serve_read.specs.Tally.{freeIn, frozenIn, linksCounted, counts, reportReply}
+use Rattle.wire.specs.Reply.{numbers, replied}
 use Rattle.read.proofs.Pieces.{row-good, row-eight, level-length}
 
 -- At most as many as there are rows, and eight links for each.
@@ -53,11 +54,6 @@ links-map (row ∷ rows) h =
     let r = links-map rows (λ p hp. h (suc p) (omega arith)) in
     length-append (linksOf (cardOf row)) (flat (map linksOf (map cardOf rows))) ∙ rw (h 0 (omega arith), r)
 
--- The eight counts.
-abbrev pub counts : List (List ℕ) → List ℕ → List ℕ → List ℕ
-counts cards head memory =
-    freeIn cards ∷ getD head 6 0 ∷ getD head 7 0 ∷ getD head 8 0 ∷ getD head 9 0 ∷ frozenIn cards ∷ linksCounted cards ∷ countOf memory ∷ []
-
 pub length-counts : (cards : List (List ℕ)) (head memory : List ℕ) → length (numbers (counts cards head memory)) ≡ 16
 unfolding numbers
 length-counts cards head memory = simp (length-append, length-bytesOf)
@@ -66,11 +62,7 @@ module _ (m : Lent) (k : Kept m) where
   levels : (n : ℕ) → n < levelCount → length (level (storeOf m) n) ≡ lengthIn (m .head) n
   levels n h = level-length m k n h
 
-  pub report-result : serveReport (storeOf m) .result ≡ 0
-  unfolding serveReport
-  report-result = refl
-
-  pub report-body : serveReport (storeOf m) .body ≡ numbers (counts (m .cards) (m .head) (m .memory))
+  report-body : serveReport (storeOf m) .body ≡ numbers (counts (m .cards) (m .head) (m .memory))
   unfolding serveReport numbers freeIn frozenIn
   report-body =
       let free : howMany isFree (storeOf m .cards) ≡ howMany (λ row. isFree (cardOf row)) (m .cards) = unfold storeOf in how-map isFree (m .cards) in
@@ -79,3 +71,9 @@ module _ (m : Lent) (k : Kept m) where
       unfold storeOf in links-map (m .cards) (λ p h. count-of (getD (m .cards) p []) (row-good m k p h) (row-eight m k p h)) in
       let held : length (storeOf m .memory) ≡ countOf (m .memory) = unfold storeOf in length-entries (m .memory) in
       rw (free, frozen, links, held, levels 0 (omega arith), levels 1 (omega arith), levels 2 (omega arith), levels 3 (omega arith))
+
+  -- The reply by the counts is the one that is served.
+  pub report-served : reportReply (m .cards) (m .head) (m .memory) ≡ replied reportKind (serveReport (storeOf m))
+  report-served =
+      let done : serveReport (storeOf m) .result ≡ doneResult = unfold serveReport in refl in
+      rw (done, report-body)

@@ -4,14 +4,10 @@ ghost use mathlib.Core.Bool.{cond};
 ghost use mathlib.Core.List.{[]};
 ghost use Prim.Native.Nat.{ℕ, _≤_, _<_};
 ghost use lib.ListN.{length, getD};
-ghost use Rattle.ldc.specs.Lent.{Lent, storeOf};
-ghost use Rattle.ldc.specs.Request.{reportKind};
-ghost use Rattle.ldc.specs.Read.{serveReport};
 ghost use Rattle.ldc.specs.Layout.{mostPlaces, linkLimit, linkCount};
 ghost use Rattle.book.specs.Head.{headWords};
-ghost use Rattle.read.specs.Shown.{Kept};
-ghost use Rattle.wire.specs.Reply.{replied, Room, Wrote};
-ghost use Rattle.serve_read.specs.Tally.{freeIn, frozenIn, linksCounted, Counts};
+ghost use Rattle.wire.specs.Reply.{Room, Wrote};
+ghost use Rattle.serve_read.specs.Tally.{freeIn, frozenIn, linksCounted, reportReply, Counts};
 use book::head::Head;
 use book::row;
 use book::row::Row;
@@ -65,14 +61,10 @@ fn count_cards(cards: &[Row]) -> Tally
     }
 }
 
-// Writes the reply to a report: free, live on levels 0 to 3, frozen, links, memory entries. All of it is said for every kept memory
-// with these cards, this head and this memory table.
+// Writes the reply to a report: free, live on levels 0 to 3, frozen, links, memory entries.
 pub fn report_reply(cards: &[Row], head: Head, memory: &[u8], answer: &mut [u8], at: usize) -> usize
     requires { ⌜ Counts (now cards) (headWords head) (now memory) × Room (now answer) at ⌝ }
-    ensures { λ r. ⌜
-        ((m : Lent) → Kept m → m .cards ≡ now (cards .entry) → m .head ≡ headWords head → m .memory ≡ now (memory .entry)
-        → Wrote answer at (replied reportKind (serveReport (storeOf m))) r)
-        ⌝ }
+    ensures { λ r. ⌜ Wrote answer at (reportReply (now (cards .entry)) (headWords head) (now (memory .entry))) r ⌝ }
 {
     let tally = count_cards(cards);
     let counts = [

@@ -7,11 +7,12 @@ use mathlib.Core.List.{List, [], _∷_, List·Memᴰ, List·Memᴰ·head, List·
 use mathlib.Core.Bool.{true}
 use mathlib.Core.Option.{some}
 use native.Mathlib.Omega.{arith}
-use lib.ListN.{length, drop}
+use lib.ListN.{length, drop, length-map}
 use Rattle.coding.specs.Number.{Bytes}
 use Rattle.table.specs.Entry.{Entry}
 use Rattle.table.specs.Limits.{placeSize}
 use Rattle.table.specs.Search.{find}
+use Rattle.ldc.specs.Lists.{keep}
 use Rattle.ldc.specs.Store.{Store, newStore, level}
 use Rattle.ldc.specs.Rules.{thresholdGood}
 use Rattle.ldc.specs.Lent.{Lent, placesIn, chop, lentOf, sizesGood}
@@ -19,13 +20,14 @@ use Rattle.ldc.specs.Request.{Request, replyOf}
 use Rattle.ldc.specs.Read.{readOrder}
 use Rattle.ldc.specs.Serve.{serve}
 use Rattle.ldc.specs.Run.{split, make}
-use Rattle.ldc.specs.History.{Call, Event, Unmerged, Answered, fed, events, lentAfter, requestsIn, unmerged, afterStep, stepOf, Holds, Demand3}
+use Rattle.ldc.specs.History.{Call, Event, Unmerged, Answered, fed, events, lentAfter, requestsIn, unmerged, hangsOn, linkOf, afterStep, stepOf, Holds, Demand3}
 use Rattle.ldc.proofs.Serving.Alike.{alike-new}
 use Rattle.ldc.proofs.Serving.AlikeServe.{unmerged-alike}
 use Rattle.ldc.proofs.Serving.Events.{serveList, Told}
 use Rattle.ldc.proofs.Serving.Keeps.{keeps}
 use Rattle.ldc.proofs.Serving.KeepsWhole.{whole-keeps}
 use Rattle.ldc.proofs.Lent.Round.{storeOf-lentOf}
+use Rattle.ldc.proofs.Lent.Rules.{kept-lentOf}
 use Rattle.ldc.proofs.Demand.Mirror.{Mirrors, mirror-answers}
 use Rattle.ldc.proofs.Demand.MirrorKeeps.{mirror-keeps}
 use Rattle.ldc.proofs.Stores.New.{new-links, made, made-sound, made-whole}
@@ -71,16 +73,19 @@ length-chop (suc n) bytes = ap suc (length-chop n (drop placeSize bytes))
 
 -- ---- the theorem
 
--- what is lent at the end shows a store that is sound, tracked by the list, with the threshold that it was made with
+-- what is lent at the end shows a store that is sound, tracked by the list, with the threshold that it was made with; as many slices hang on a place
+-- as links stand on its card
 holds : (s : Store) → Sound s → Whole s → (t : ℕ) → s .threshold ≡ t → (es : List Event) → Answered [] es → (us : List Unmerged) → Tracks s us → Holds (lentOf s) t es us
 holds s S W t h es a us T =
     let e = storeOf-lentOf s S W in
     record {
       answered = a;
+      sound = kept-lentOf s S W;
       frozen = λ p _. rw e (S .naming p ∙ list-names s us T p);
       kept = λ u m. rw e (T .kept u m);
-      carried = λ p _. rw e (T .carried p);
-      few = λ p. rw (e, ← h) (S .few p);
+      carried = λ p. rw e (T .carried p);
+      few = λ p. omega (arith, h, S .few p, ap length (T .carried p), length-map (keep (hangsOn p) us) linkOf);
+      fewLinks = λ p. rw (e, ← h) (S .few p);
     }
 
 -- For every lent memory of the right sizes, every threshold from 1 to 8, every list of calls whose lists are bytes, and places to work the slice list

@@ -10,17 +10,13 @@ use lib.Dec.{eqb}
 use Rattle.ldc.specs.Lists.{any, keep}
 use Rattle.ldc.specs.Store.{Link, Store, card, links, isFree, isFrozen, bytesAt}
 use Rattle.ldc.specs.Rules.{named}
-use Rattle.ldc.specs.History.{Unmerged, linkOf}
+use Rattle.ldc.specs.History.{Unmerged, hangsOn, linkOf}
 use Rattle.ldc.proofs.Basics.Cases.{cases}
 use Rattle.ldc.proofs.Stores.CardFacts.{frozen-not-free}
 use Rattle.ldc.proofs.Stores.Naming.{any-intro, any-elim, named-intro, named-elim, agree}
 use Rattle.ldc.proofs.Stores.Sound.{Sound}
 use Rattle.ldc.proofs.Steps.StepFacts.{keep-member}
 use Rattle.ldc.proofs.Stores.Written.{map-member, member-map}
-
--- Does a slice hang on this place?
-abbrev pub hangsOn : ℕ → Unmerged → Bool
-hangsOn q u = eqb (u .slice .on) q
 
 pub record Tracks (s : Store) (us : List Unmerged) : Type 0 where
   pub carried : (q : ℕ) → links s q ≡ map linkOf (keep (hangsOn q) us)

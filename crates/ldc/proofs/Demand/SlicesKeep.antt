@@ -21,7 +21,7 @@ use Rattle.ldc.specs.Read.{lookUp, serveLookUp, serveScan, serveReport}
 use Rattle.ldc.specs.Tidy.{Slice, Step, idle, refused, moved, linked, merged, tidyStep, slicesOf, mergedTables}
 use Rattle.ldc.specs.Steps.{stepServed, serveTidy, doLink, doMerge}
 use Rattle.ldc.specs.Serve.{serve}
-use Rattle.ldc.specs.History.{Unmerged, linkOf, stepOf, afterStep}
+use Rattle.ldc.specs.History.{Unmerged, hangsOn, linkOf, stepOf, afterStep}
 use Rattle.ldc.proofs.Steps.Apart.{keep-append}
 use Rattle.ldc.proofs.Basics.Cases.{cases, clash}
 use Rattle.ldc.proofs.Stores.CardFacts.{frozen-not-free}
@@ -32,7 +32,7 @@ use Rattle.ldc.proofs.Steps.LinkShape.{link-links, link-places}
 use Rattle.ldc.proofs.Steps.MergeShape.{merge-links, merge-gone, merge-kept}
 use Rattle.ldc.proofs.Steps.Move.{move-links, move-bytes}
 use Rattle.ldc.proofs.Serving.ServeCases.{serve-cases}
-use Rattle.ldc.proofs.Demand.Slices.{hangsOn, Tracks, slice-frozen, same-tracks}
+use Rattle.ldc.proofs.Demand.Slices.{Tracks, slice-frozen, same-tracks}
 use Rattle.ldc.proofs.Stores.Sound.{Sound}
 use Rattle.ldc.proofs.Steps.StepFacts.{keep-member, slice-member, step-moved, step-linked, step-merged}
 use Rattle.ldc.proofs.Stores.Written.{member-map}

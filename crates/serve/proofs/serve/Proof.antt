@@ -18,6 +18,7 @@ use Rattle.book.specs.Pieces.{lent}
 use Rattle.book_edit.proofs.Keeping.{shape-of, lent-kept}
 use Rattle.serve.proofs.ByKind.{good, unknown-0, unknown-above, serve-unknown, serve-misfit, serve-3, serve-4, serve-5, serve-6, serve-7, serve-put, length-3, length-4, form-put}
 use Rattle.serve_write.proofs.Turns.{turned-by}
+use Rattle.serve_read.proofs.Counted.{report-served}
 use Rattle.serve.proofs.Unmoved.{scan-store, look-up-store, report-store, counts-kept, turn-read, turn-refused, turn-put}
 use Rattle.serve.proofs.serve.Statement.{statement}
 use Rattle.serve.proofs.serve.Tie as tie
@@ -245,7 +246,7 @@ returns-6 c =
     let a = k .before .before .before .before .before .args in
     let m = lent (a .area .now) (a .cards .now) (a .lists .now) (headWords (a .head)) (a .memory .now) in
     let s = storeOf m in
-    let e = r .report-reply .ensures m (k .before .before .before .before .before .pre .0 .kept) refl refl refl in
+    let e = rw (report-served m (k .before .before .before .before .before .pre .0 .kept)) at (r .report-reply .ensures) in
     turn-read m (held k) 7 (serveReport s) (a .answer .now) _ (a .at) _ (report-store s) e
     ∙ turned-by m (a .kind) (a .body .now) (a .answer .now) (a .at) (sym (x .match .keys5)) (sym (serve-7 s (a .kind) (a .body .now) (x .match .keys5) (fit i)))
 

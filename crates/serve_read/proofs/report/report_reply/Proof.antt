@@ -1,16 +1,16 @@
--- `report_reply` meets its contract: the eight counts behind six bytes are the reply that a store with these cards, head and memory serves.
+-- `report_reply` meets its contract: behind six bytes stand the eight counts, each of which fits two bytes.
 use Prim.Native.Nat.{_+_}
 use mathlib.Core.Path.{_≡_, sym, _∙_, ap}
 use native.Mathlib.Omega.{arith}
 use borrow.Author.Needs.{needs}
 use lib.Seq.{sets}
 use Rattle.table.proofs.Position.{memory-good}
-use Rattle.ldc.specs.Request.{replyBytes}
 use Rattle.ldc.proofs.Serving.Replies.{length-reply}
 use Rattle.book.specs.Head.{headWords}
 use Rattle.wire.specs.Reply.{replyHead, numbers}
 use Rattle.wire.proofs.Written.{reply-written}
-use Rattle.serve_read.proofs.Counted.{free-few, frozen-few, links-few, counts, length-counts, report-result, report-body}
+use Rattle.serve_read.specs.Tally.{counts, reportReply}
+use Rattle.serve_read.proofs.Counted.{free-few, frozen-few, links-few, length-counts}
 use Rattle.serve_read.proofs.report.report_reply.Statement.{statement}
 use Rattle.serve_read.proofs.report.report_reply.Tie as tie
 
@@ -72,7 +72,7 @@ same-length c = search needs
 written : (c : tie.After-slice-known3)
     → let a = c .before .before .before .before .before .before .before .before .before .before .before .before .before .before .before .before .before .before .before .before .args in
     c .before .before .put-numbers .last .0
-    ≡ sets (a .answer .now) (a .at) (replyBytes 7 0 (numbers (counts (a .cards .now) (headWords (a .head)) (a .memory .now))))
+    ≡ sets (a .answer .now) (a .at) (reportReply (a .cards .now) (headWords (a .head)) (a .memory .now))
 written c =
     let a = c .before .before .before .before .before .before .before .before .before .before .before .before .before .before .before .before .before .before .before .before .args in
     let t = c .before .before .before .before .before .before .before .before .before .before .before .before .before .before .before .before .before .count-cards .ensures in
@@ -85,14 +85,10 @@ written c =
 
 returns : tie.Need-returns
 returns c =
-    λ m k ec eh em.
     let a = c .before .before .before .before .before .before .before .before .before .before .before .before .before .before .before .before .before .before .before .before .args in
-    let body = report-body m k in
-    let same : counts (m .cards) (m .head) (m .memory) ≡ counts (a .cards .now) (headWords (a .head)) (a .memory .now) = rw (ec, eh, em) in
-    let sixteen = length-counts (a .cards .now) (headWords (a .head)) (a .memory .now) in
     record {
-      bytes = rw (report-result m k, body, same) (written c);
-      count = rw (report-result m k, body, same) (omega (arith, length-reply 7 0 (numbers (counts (a .cards .now) (headWords (a .head)) (a .memory .now)))));
+      bytes = written c;
+      count = omega (arith, length-counts (a .cards .now) (headWords (a .head)) (a .memory .now), length-reply 7 0 (numbers (counts (a .cards .now) (headWords (a .head)) (a .memory .now))));
     }
 
 pub report-reply-spec : {M : Type 1} → statement M
