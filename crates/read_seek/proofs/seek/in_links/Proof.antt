@@ -68,7 +68,7 @@ in-slice-requires c κs =
     rw (ap (λ (l : Link). l .place) e) t
 
 nearer-requires : tie.Need-nearer-requires Inv-loop μ-loop
-nearer-requires c κs = (c .before .before .before .before .loop .inv .2, c .in-slice .ensures .seated)
+nearer-requires c κs = search (c .before .before .before .before .loop .inv .2, c .in-slice .ensures .seated)
 
 loop-less : tie.Need-loop-less Inv-loop μ-loop
 loop-less c = omega arith

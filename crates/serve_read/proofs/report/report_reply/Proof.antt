@@ -31,9 +31,11 @@ cast-t11 : tie.Need-cast-t11
 cast-t11 c =
     omega (arith, c .before .before .before .before .before .before .before .pre .0 .lists 2 (omega arith))
 
+-- (Any level's length fits two bytes: which one is counted is not asked here, but in `written`.)
 cast-t12 : tie.Need-cast-t12
 cast-t12 c =
-    omega (arith, c .before .before .before .before .before .before .before .before .pre .0 .lists 3 (omega arith))
+    let few = c .before .before .before .before .before .before .before .before .pre .0 .lists in
+    omega (arith, few 2 (omega arith), few 3 (omega arith))
 
 cast-t13 : tie.Need-cast-t13
 cast-t13 c =
