@@ -80,7 +80,7 @@ pub fn run(
         return refused(results::BROKEN_LIST, 0);
     }
     let checked = check_store::check(area, cards, lists, head, memory);
-    if checked.number != results::ACCEPTED {
+    if checked.number != 6 {
         return refused(results::UNSOUND, checked.letter);
     }
     rows_wide(cards);
