@@ -1,10 +1,11 @@
 -- Each call over structs by its ways out: what it returns and leaves there is what the contract says.
---   sizes-same                            sizes are good by how many rows there are, whatever they hold
---   early-other, early-same               the number by which a run is refused early
---   rows-stay, rows-written               what the working rows hold
---   make-refused, make-accepted           of `make`, by what making a store in the rows returned and left
---   check-refused, check-judged           of `check`: refused for sizes, or judged
---   run-refused, run-as-many, run-unsound, run-served   of `run`: refused early, or carried over and then refused by 5, or served
+--   early-other, early-same        the number by which a run is refused early
+--   rows-accepted, rows-follow     what the working rows hold
+--   make-same, run-same            with as many rows as cards, what is returned over rows
+--   make-refused, make-accepted    of `make`, by what making a store in the rows returned and left
+--   check-refused, check-judged    of `check`: refused for sizes, or judged
+--   run-refused, run-unsound, run-served   of `run`: refused early; carried over, and then refused by 5 or served
+--   ..-as-many                     what was not refused by 1 has as many rows as cards
 use Prim.Native.Nat.{ℕ}
 use mathlib.Core.Path.{_≡_, refl, sym, _∙_, ap}
 use mathlib.Core.Bool.{true, false, cond, _&&_, _||_}
@@ -31,7 +32,7 @@ use Rattle.store_run.proofs.Runs.{passed, early-not-unsound, run-early, run-lat
 use Rattle.store_structs.specs.Over.{asMany, makeOver, checkOver, runOver, earlyOver, rowsAfter, Left}
 
 -- Sizes are good by the lengths alone.
-pub sizes-same : (m n : Lent) → length (m .area) ≡ length (n .area) → length (m .cards) ≡ length (n .cards) → length (m .lists) ≡ length (n .lists)
+sizes-same : (m n : Lent) → length (m .area) ≡ length (n .area) → length (m .cards) ≡ length (n .cards) → length (m .lists) ≡ length (n .lists)
     → sizesGood m ≡ sizesGood n
 sizes-same m n a c l = sym (sizes-by m _ _ _ a c l) ∙ sizes-by n _ _ _ refl refl refl
 
@@ -49,7 +50,7 @@ module _ (rows : List (List ℕ)) (m : Lent) (room : ℕ) (list : List ℕ) wher
 -- ---- what the working rows hold
 
 module _ (number : ℕ) (rows : List (List ℕ)) (cards : List Card) where
-  pub rows-stay : (number ≡ accepted → ⊥) → eqb number unsound ≡ false → rows ≡ rowsAfter number rows cards
+  rows-stay : (number ≡ accepted → ⊥) → eqb number unsound ≡ false → rows ≡ rowsAfter number rows cards
   unfolding rowsAfter
   rows-stay n u = rw (ne-eqb number accepted n, u)
 
@@ -57,9 +58,28 @@ module _ (number : ℕ) (rows : List (List ℕ)) (cards : List Card) where
   unfolding rowsAfter
   rows-accepted e = rw e
 
-  pub rows-unsound : number ≡ unsound → rowsOf cards ≡ rowsAfter number rows cards
+  rows-unsound : number ≡ unsound → rowsOf cards ≡ rowsAfter number rows cards
   unfolding rowsAfter
   rows-unsound e = rw e
+
+-- What a call leaves of rows that were the cards' words: the words of the cards that it leaves.
+pub rows-follow : (number : ℕ) (rows lastRows : List (List ℕ)) (cards lastCards : List Card) → Left number rows lastRows cards lastCards → rows ≡ rowsOf cards → lastRows ≡ rowsOf lastCards
+rows-follow number rows lastRows cards lastCards l e =
+    cases (eqb number accepted) (λ a. l .rows-are ∙ sym (rows-accepted number rows lastCards (eqb-true number accepted a)))
+    (λ a. let n = eqb-false number accepted a in
+    cases (eqb number unsound) (λ u. l .rows-are ∙ sym (rows-unsound number rows lastCards (eqb-true number unsound u)))
+    (λ u. l .rows-are ∙ sym (rows-stay number rows lastCards n u) ∙ e ∙ ap rowsOf (sym (l .cards-stay n))))
+
+-- ---- as many rows as cards
+
+module _ (rows : List (List ℕ)) (m : Lent) where
+  pub make-same : (t : ℕ) → length rows ≡ length (m .cards) → make m t ≡ makeOver rows m t
+  unfolding makeOver
+  make-same t e = rw (eq-eqb (length rows) (length (m .cards)) e)
+
+  pub run-same : (list answer : List ℕ) → length rows ≡ length (m .cards) → run m list answer ≡ runOver rows m list answer
+  unfolding runOver
+  run-same list answer e = rw (eq-eqb (length rows) (length (m .cards)) e)
 
 -- ---- make
 
@@ -162,10 +182,6 @@ module _ (A : List ℕ) (rows : List (List ℕ)) (cards : List Card) (I H M list
   abbrev m : Lent
   m = lent A (rowsOf cards) I H M
 
-  run-same : length rows ≡ length (m .cards) → run m list answer ≡ runOver rows m list answer
-  unfolding runOver
-  run-same e = rw (eq-eqb (length rows) (length (m .cards)) e)
-
   run-other : (length rows ≡ length (m .cards) → ⊥) → refusedRun wrongSizes m answer ≡ runOver rows m list answer
   unfolding runOver
   run-other n = rw (ne-eqb (length rows) (length (m .cards)) n)
@@ -177,7 +193,7 @@ module _ (A : List ℕ) (rows : List (List ℕ)) (cards : List Card) (I H M list
       (λ e. let same = eqb-true (length rows) (length (m .cards)) e in
       let k = found ∙ sym (early-same rows m (length answer) list same) in
       let u : eqb early unsound ≡ false = ap (λ (x : ℕ). eqb x unsound) k ∙ early-not-unsound m (length answer) list in (
-        ap (λ (x : ℕ). refusedRun x m answer) k ∙ sym (run-early m list answer (λ z. n (k ∙ z))) ∙ run-same same,
+        ap (λ (x : ℕ). refusedRun x m answer) k ∙ sym (run-early m list answer (λ z. n (k ∙ z))) ∙ run-same rows m list answer same,
         (letter-none m early 0 u refl, record { rows-are = rows-stay early rows cards n u; cards-stay = λ _. refl }),
       ))
       (λ e. let other = eqb-false (length rows) (length (m .cards)) e in
@@ -204,13 +220,13 @@ module _ (A : List ℕ) (rows : List (List ℕ)) (cards : List Card) (I H M list
           let p = passed m list answer (early-same rows m (length answer) list as-many ∙ sym found ∙ none) in
           let late = said ∙ run-late m list answer p (λ e. n (ap (λ (o : Outcome). o .number) said ∙ e)) in
           let back : rows′ ≡ rowsOf cards = ap (λ (o : Outcome). o .lent .cards) late in (
-            ap (λ (l : List (List ℕ)). ran number served written (lent A′ l I′ H′ M′) answer′) (sym back) ∙ said ∙ run-same as-many,
+            ap (λ (l : List (List ℕ)). ran number served written (lent A′ l I′ H′ M′) answer′) (sym back) ∙ said ∙ run-same rows m list answer as-many,
             (told, record { rows-are = back ∙ rows-unsound number rows cards (ap (λ (o : Outcome). o .number) late); cards-stay = λ _. refl }),
           )
 
       pub run-served : number ≡ accepted → (cards′ : List Card) → rowsOf cards′ ≡ rows′
           → (ran number served written (lent A′ (rowsOf cards′) I′ H′ M′) answer′ ≡ runOver rows m list answer) × (LetterOf m number letter × Left number rows rows′ cards cards′)
       run-served n cards′ e = (
-        ap (λ (l : List (List ℕ)). ran number served written (lent A′ l I′ H′ M′) answer′) e ∙ said ∙ run-same as-many,
+        ap (λ (l : List (List ℕ)). ran number served written (lent A′ l I′ H′ M′) answer′) e ∙ said ∙ run-same rows m list answer as-many,
         (told, record { rows-are = sym e ∙ rows-accepted number rows cards′ n; cards-stay = λ r. absurd (r n) }),
       )
