@@ -92,13 +92,7 @@ pub fn run(
         × LetterOf (before area cards lists head memory) (r .number) (r .letter)
         ⌝ }
 {
-    let early = refusal(
-        area.len(),
-        cards.len(),
-        lists.len(),
-        answer.len(),
-        list,
-    );
+    let early = refusal(area.len(), cards.len(), lists.len(), answer.len(), list);
     if early != results::ACCEPTED {
         return refused(early, 0);
     }

@@ -65,15 +65,7 @@ pub fn make(
         × Left r (now (rows .entry)) (now (rows .exit)) (now (cards .entry)) (now (cards .exit))
         ⌝ }
 {
-    let number = make_rows(
-        area,
-        cards.len(),
-        rows,
-        lists,
-        head,
-        memory,
-        threshold,
-    );
+    let number = make_rows(area, cards.len(), rows, lists, head, memory, threshold);
     if number != results::ACCEPTED {
         return number;
     }

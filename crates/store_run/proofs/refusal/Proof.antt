@@ -34,15 +34,15 @@ returns-3 : tie.Need-returns-3
 returns-3 c =
     let j = c .before .before in
     λ m p q r.
-      ap (λ (b : Bool). cond b accepted brokenList) (sym (not-true _ (c .if3 .taken)) ∙ c .before .is-list .ensures)
-      ∙ early-listed m _ _ (sized (j .before) m p q r) (j .if2 .left)
+    ap (λ (b : Bool). cond b accepted brokenList) (sym (not-true _ (c .if3 .taken)) ∙ c .before .is-list .ensures)
+    ∙ early-listed m _ _ (sized (j .before) m p q r) (j .if2 .left)
 
 returns-4 : tie.Need-returns-4
 returns-4 c =
     let j = c .before .before in
     λ m p q r.
-      ap (λ (b : Bool). cond b accepted brokenList) (sym (not-false _ (c .if3 .left)) ∙ c .before .is-list .ensures)
-      ∙ early-listed m _ _ (sized (j .before) m p q r) (j .if2 .left)
+    ap (λ (b : Bool). cond b accepted brokenList) (sym (not-false _ (c .if3 .left)) ∙ c .before .is-list .ensures)
+    ∙ early-listed m _ _ (sized (j .before) m p q r) (j .if2 .left)
 
 pub refusal-spec : {M : Type 1} → statement M
 refusal-spec =
