@@ -1,11 +1,11 @@
 // The store of a program that holds its cards by value: who calls these functions lends no slice of structs, and needs no proof by hand.
 ghost use mathlib.Core.Path.{_≡_};
-ghost use Rattle.ldc.specs.Run.{make, run, LetterOf};
+ghost use Rattle.ldc.specs.Run.{run, LetterOf};
 ghost use Rattle.book.specs.Made.{made};
 ghost use Rattle.book.specs.Pieces.{after, before};
 ghost use Rattle.serve_list.specs.Ran.{ran};
 ghost use Rattle.store_cards.specs.Card.{rowsOf};
-ghost use Rattle.store_structs.specs.Over.{Over, beforeWith, afterWith};
+ghost use Rattle.store_structs.specs.Over.{makeOver, runOver, Left, beforeWith, afterWith};
 use book::head::HeadWords;
 use book::row::Row;
 use store_cards::Card;
@@ -27,7 +27,7 @@ pub struct Continued {
     pub cards: [Card; PLACES],
 }
 
-// Makes a new store.
+// Makes a new store. Refused, by 1 or 2, it changes nothing.
 pub fn start(
     area: &mut [u8],
     cards: [Card; PLACES],
@@ -38,13 +38,9 @@ pub fn start(
     threshold: u64,
 ) -> Started
     ensures { λ r. ⌜
-        Over (now (rows .entry)) cards
-        ((made (r .number) (afterWith area (r .cards) lists head memory)
-        ≡ make (beforeWith area cards lists head memory) threshold)
-        × (now (rows .exit) ≡ rowsOf (r .cards)))
-        ((made (r .number) (after area rows lists head memory)
-        ≡ made 1 (before area rows lists head memory))
-        × (r .cards ≡ cards))
+        (made (r .number) (afterWith area (r .cards) lists head memory)
+        ≡ makeOver (now (rows .entry)) (beforeWith area cards lists head memory) threshold)
+        × Left (r .number) (now (rows .entry)) (now (rows .exit)) cards (r .cards)
         ⌝ }
 {
     let mut mine = cards;
@@ -55,7 +51,7 @@ pub fn start(
     }
 }
 
-// Runs a list of requests.
+// Runs a list of requests. Refused, it changes nothing of the store; with 5 the working rows become the cards' words.
 pub fn serve(
     area: &mut [u8],
     cards: [Card; PLACES],
@@ -67,15 +63,10 @@ pub fn serve(
     answer: &mut [u8],
 ) -> Continued
     ensures { λ r. ⌜
-        Over (now (rows .entry)) cards
-        (((ran (r .ran .number) (r .ran .served) (r .ran .written) (afterWith area (r .cards) lists head memory) (now (answer .exit))
-        ≡ run (beforeWith area cards lists head memory) (now (list .entry)) (now (answer .entry)))
-        × LetterOf (beforeWith area cards lists head memory) (r .ran .number) (r .ran .letter))
-        × (now (rows .exit) ≡ rowsOf (r .cards)))
-        (((ran (r .ran .number) (r .ran .served) (r .ran .written) (after area rows lists head memory) (now (answer .exit))
-        ≡ ran 1 0 0 (before area rows lists head memory) (now (answer .entry)))
-        × (r .ran .letter ≡ 0))
-        × (r .cards ≡ cards))
+        (ran (r .ran .number) (r .ran .served) (r .ran .written) (afterWith area (r .cards) lists head memory) (now (answer .exit))
+        ≡ runOver (now (rows .entry)) (beforeWith area cards lists head memory) (now (list .entry)) (now (answer .entry)))
+        × (LetterOf (beforeWith area cards lists head memory) (r .ran .number) (r .ran .letter)
+        × Left (r .ran .number) (now (rows .entry)) (now (rows .exit)) cards (r .cards))
         ⌝ }
 {
     let mut mine = cards;

@@ -3,9 +3,11 @@ ghost use mathlib.Core.Path.{_≡_};
 ghost use lib.ListN.{length};
 ghost use Rattle.ldc.specs.Run.{run, LetterOf};
 ghost use Rattle.ldc.specs.Layout.{rowSize};
+ghost use Rattle.ldc.specs.Lent.{Lent};
 ghost use Rattle.book.specs.Pieces.{lent, after, before};
 ghost use Rattle.book.specs.Rows.{Wide};
 ghost use Rattle.serve_list.specs.Ran.{ran};
+ghost use Rattle.store_run.specs.Early.{earlyNumber};
 use book::head;
 use book::head::HeadWords;
 use book::row::Row;
@@ -41,6 +43,26 @@ fn rows_wide(cards: &[Row])
     }
 }
 
+// The number by which a run is refused before the store is looked at: 1, 3 or 4, in this order; 0 where the store is next. Of area, cards, lists
+// and answer only the lengths matter.
+pub fn refusal(area: usize, cards: usize, lists: usize, answer: usize, list: &[u8]) -> u64
+    ensures { λ r. ⌜
+        ((m : Lent) → length (m .area) ≡ area → length (m .cards) ≡ cards → length (m .lists) ≡ lists
+        → r ≡ earlyNumber m answer (now (list .entry)))
+        ⌝ }
+{
+    if !sizes::sizes(area, cards, lists) {
+        return results::WRONG_SIZES;
+    }
+    if answer < reply::ROOM {
+        return results::SHORT_ANSWER;
+    }
+    if !list::is_list(list) {
+        return results::BROKEN_LIST;
+    }
+    results::ACCEPTED
+}
+
 // A refused run: nothing served, nothing written.
 fn refused(number: u64, letter: u64) -> Ran
     ensures { λ r. ⌜ (r .number ≡ number) × ((r .letter ≡ letter) × ((r .served ≡ 0) × (r .written ≡ 0))) ⌝ }
@@ -70,14 +92,9 @@ pub fn run(
         × LetterOf (before area cards lists head memory) (r .number) (r .letter)
         ⌝ }
 {
-    if !sizes::sizes(area.len(), cards.len(), lists.len()) {
-        return refused(results::WRONG_SIZES, 0);
-    }
-    if answer.len() < reply::ROOM {
-        return refused(results::SHORT_ANSWER, 0);
-    }
-    if !list::is_list(list) {
-        return refused(results::BROKEN_LIST, 0);
+    let early = refusal(area.len(), cards.len(), lists.len(), answer.len(), list);
+    if early != results::ACCEPTED {
+        return refused(early, 0);
     }
     let checked = check_store::check(area, cards, lists, head, memory);
     if checked.number != 6 {

@@ -1,24 +1,55 @@
 // The store over lent memory whose cards are a slice of structs: make, check and run.
 //
-// The store itself works on rows of words. Each function here carries the cards to working rows that the caller lends beside them, calls the
-// proved one, and carries the rows back. As many rows as cards are wanted; another number of them is refused by 1, and nothing is changed.
+// The store itself works on rows of words. Who calls these functions lends working rows beside the cards, as many; another number of them is
+// refused by 1. Numbers 1 to 4 are found before anything is carried over, so that nothing that is lent changes. Then the cards are carried to the
+// rows (a new store needs no old cards), the proved function works on these, and the rows are carried back where it accepts. With 5 the cards
+// stay, and the rows hold their words.
 ghost use mathlib.Core.Path.{_≡_};
-ghost use Rattle.ldc.specs.Run.{make, run, LetterOf};
+ghost use mathlib.Core.Bool.{cond, _&&_};
+ghost use mathlib.Core.List.{List};
+ghost use Prim.Native.Nat.{ℕ};
+ghost use lib.Dec.{eqb};
+ghost use lib.ListN.{length};
+ghost use Rattle.ldc.specs.Lent.{Lent, sizesGood};
+ghost use Rattle.ldc.specs.Run.{wrongSizes, make, LetterOf};
 ghost use Rattle.book.specs.Made.{made};
 ghost use Rattle.book.specs.Pieces.{after, before};
 ghost use Rattle.check_store.specs.Answer.{Answers};
 ghost use Rattle.serve_list.specs.Ran.{ran};
-ghost use Rattle.store_cards.specs.Card.{rowsOf};
-ghost use Rattle.store_structs.specs.Over.{Over, beforeOver, afterOver};
+ghost use Rattle.store_structs.specs.Over.{asMany, makeOver, checkOver, runOver, earlyOver, rowsAfter, Left, beforeOver, afterOver};
 use book::head::HeadWords;
 use book::row::Row;
+use book::sizes;
 use check_store::Checked;
 use store_cards::Card;
 use store_run::Ran;
 use table::limits::PlaceBytes;
 use wire::results;
 
-// Makes a new store: 0, or 1 for sizes, or 2 for a threshold outside 1 to 8.
+// Makes a new store of so many cards in rows, or refuses with nothing changed.
+fn make_rows(
+    area: &mut [u8],
+    cards: usize,
+    rows: &mut [Row],
+    lists: &mut [u16],
+    head: &mut HeadWords,
+    memory: &mut PlaceBytes,
+    threshold: u64,
+) -> u64
+    ensures { λ r. ⌜
+        made r (after area rows lists head memory)
+        ≡ cond (eqb (length (now (rows .entry))) cards)
+        (make (before area rows lists head memory) threshold)
+        (made wrongSizes (before area rows lists head memory))
+        ⌝ }
+{
+    if rows.len() != cards {
+        return results::WRONG_SIZES;
+    }
+    store_make::make(area, rows, lists, head, memory, threshold)
+}
+
+// Makes a new store: 0, or 1 for sizes, or 2 for a threshold outside 1 to 8. Refused, nothing that is lent changes, and no working row either.
 pub fn make(
     area: &mut [u8],
     cards: &mut [Card],
@@ -29,22 +60,27 @@ pub fn make(
     threshold: u64,
 ) -> u64
     ensures { λ r. ⌜
-        Over (now (rows .entry)) (now (cards .entry))
-        ((made r (afterOver area cards lists head memory)
-        ≡ make (beforeOver area cards lists head memory) threshold)
-        × (now (rows .exit) ≡ rowsOf (now (cards .exit))))
-        ((made r (after area rows lists head memory)
-        ≡ made 1 (before area rows lists head memory))
-        × (now (cards .exit) ≡ now (cards .entry)))
+        (made r (afterOver area cards lists head memory)
+        ≡ makeOver (now (rows .entry)) (beforeOver area cards lists head memory) threshold)
+        × Left r (now (rows .entry)) (now (rows .exit)) (now (cards .entry)) (now (cards .exit))
         ⌝ }
 {
-    if rows.len() != cards.len() {
-        return results::WRONG_SIZES;
+    let number = make_rows(area, cards.len(), rows, lists, head, memory, threshold);
+    if number != results::ACCEPTED {
+        return number;
     }
-    store_cards::load(cards, rows);
-    let number = store_make::make(area, rows, lists, head, memory, threshold);
     store_cards::unload(cards, rows);
     number
+}
+
+// Number 1: are so many bytes, cards, working rows and list items those of a store, with as many rows as cards?
+fn fits(area: usize, cards: usize, rows: usize, lists: usize) -> bool
+    ensures { λ r. ⌜
+        ((m : Lent) (w : List (List ℕ)) → length (m .area) ≡ area → length (m .cards) ≡ cards → length w ≡ rows → length (m .lists) ≡ lists
+        → r ≡ asMany w m && sizesGood m)
+        ⌝ }
+{
+    (rows == cards) & sizes::sizes(area, cards, lists)
 }
 
 // The check of rows that may be written to, which it leaves as they are.
@@ -63,7 +99,7 @@ fn check_rows(
     check_store::check(area, rows, lists, head, memory)
 }
 
-// Is this a sound store? Of what is lent the working rows alone are written: they become the cards' words.
+// Is this a sound store? Of what is lent the working rows alone are written: with 0 and 5 they become the cards' words.
 pub fn check(
     area: &[u8],
     cards: &[Card],
@@ -73,13 +109,12 @@ pub fn check(
     memory: &PlaceBytes,
 ) -> Checked
     ensures { λ r. ⌜
-        Over (now (rows .entry)) (now (cards .entry))
-        (Answers (beforeOver area cards lists head memory) (r .number) (r .letter)
-        × (now (rows .exit) ≡ rowsOf (now (cards .entry))))
-        ((r .number ≡ 1) × ((r .letter ≡ 0) × (now (rows .exit) ≡ now (rows .entry))))
+        (r .number ≡ checkOver (now (rows .entry)) (beforeOver area cards lists head memory))
+        × (LetterOf (beforeOver area cards lists head memory) (r .number) (r .letter)
+        × (now (rows .exit) ≡ rowsAfter (r .number) (now (rows .entry)) (now (cards .entry))))
         ⌝ }
 {
-    if rows.len() != cards.len() {
+    if !fits(area.len(), cards.len(), rows.len(), lists.len()) {
         return Checked {
             number: results::WRONG_SIZES,
             letter: 0,
@@ -89,7 +124,28 @@ pub fn check(
     check_rows(area, rows, lists, head, memory)
 }
 
-// Runs a list of requests: refused with 1, 3, 4 or 5, in this order, nothing changed and nothing written; otherwise served in order.
+// The number by which a run is refused before anything is carried over: 1, 3 or 4, in this order; 0 where the store is next.
+fn refusal_over(
+    area: usize,
+    cards: usize,
+    rows: usize,
+    lists: usize,
+    answer: usize,
+    list: &[u8],
+) -> u64
+    ensures { λ r. ⌜
+        ((m : Lent) (w : List (List ℕ)) → length (m .area) ≡ area → length (m .cards) ≡ cards → length w ≡ rows → length (m .lists) ≡ lists
+        → r ≡ earlyOver w m answer (now (list .entry)))
+        ⌝ }
+{
+    if rows != cards {
+        return results::WRONG_SIZES;
+    }
+    store_run::refusal(area, cards, lists, answer, list)
+}
+
+// Runs a list of requests: refused with 1, 3, 4 or 5, in this order; otherwise served in order. Refused, nothing of the store changes and nothing
+// is written to the answer; with 1, 3 and 4 no working row changes either, and with 5 they become the cards' words.
 pub fn run(
     area: &mut [u8],
     cards: &mut [Card],
@@ -101,20 +157,23 @@ pub fn run(
     answer: &mut [u8],
 ) -> Ran
     ensures { λ r. ⌜
-        Over (now (rows .entry)) (now (cards .entry))
-        (((ran (r .number) (r .served) (r .written) (afterOver area cards lists head memory) (now (answer .exit))
-        ≡ run (beforeOver area cards lists head memory) (now (list .entry)) (now (answer .entry)))
-        × LetterOf (beforeOver area cards lists head memory) (r .number) (r .letter))
-        × (now (rows .exit) ≡ rowsOf (now (cards .exit))))
-        (((ran (r .number) (r .served) (r .written) (after area rows lists head memory) (now (answer .exit))
-        ≡ ran 1 0 0 (before area rows lists head memory) (now (answer .entry)))
-        × (r .letter ≡ 0))
-        × (now (cards .exit) ≡ now (cards .entry)))
+        (ran (r .number) (r .served) (r .written) (afterOver area cards lists head memory) (now (answer .exit))
+        ≡ runOver (now (rows .entry)) (beforeOver area cards lists head memory) (now (list .entry)) (now (answer .entry)))
+        × (LetterOf (beforeOver area cards lists head memory) (r .number) (r .letter)
+        × Left (r .number) (now (rows .entry)) (now (rows .exit)) (now (cards .entry)) (now (cards .exit)))
         ⌝ }
 {
-    if rows.len() != cards.len() {
+    let early = refusal_over(
+        area.len(),
+        cards.len(),
+        rows.len(),
+        lists.len(),
+        answer.len(),
+        list,
+    );
+    if early != results::ACCEPTED {
         return Ran {
-            number: results::WRONG_SIZES,
+            number: early,
             letter: 0,
             served: 0,
             written: 0,
@@ -122,6 +181,9 @@ pub fn run(
     }
     store_cards::load(cards, rows);
     let done = store_run::run(area, rows, lists, head, memory, list, answer);
+    if done.number != results::ACCEPTED {
+        return done;
+    }
     store_cards::unload(cards, rows);
     done
 }

@@ -1,8 +1,8 @@
--- `go_on` meets its contract: there are as many rows as cards, since the rows are the cards' words.
-use mathlib.Core.Path.{refl, ap, _∙_}
+-- `go_on` meets its contract: there are as many rows as cards, since the rows are the cards' words, and they follow the cards.
+use mathlib.Core.Path.{refl, sym, ap, _∙_}
 use borrow.Author.Needs.{needs}
 use lib.ListN.{length}
-use Rattle.store_cards.proofs.Words.{rows-length}
+use Rattle.store_structs.proofs.Ways.{rows-follow, run-same}
 use Rattle.store_owned.proofs.go_on.Statement.{statement}
 use Rattle.store_owned.proofs.go_on.Tie as tie
 
@@ -25,8 +25,9 @@ returns : tie.Need-returns
 returns c =
     let s = c .before .before .before .before .before .before .before in
     let start = s .before .before .before .before .before .before .before .before .before .before .before in
-    let d = s .serve .ensures .0 (ap length (start .pre) ∙ rows-length (start .args .cards)) in
-    rw (start .pre, d .1) (d .0, refl)
+    let d = s .serve .ensures in
+    let follow = rows-follow _ _ _ _ _ (d .1 .1) (start .pre) in
+    rw (start .pre, follow) ((d .0 ∙ sym (run-same _ _ _ _ (ap length (start .pre))), d .1 .0), refl)
 
 pub go-on-spec : {M : Type 1} → statement M
 go-on-spec =

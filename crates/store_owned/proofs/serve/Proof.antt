@@ -42,7 +42,7 @@ use denote.Signature.{plain}
 use Rattle.store_cards.specs.Card.{rowsOf}
 use Rattle.store_cards.specs.declared.Card.{Card}
 use Rattle.store_cards.proofs.Card as T
-use Rattle.ldc.specs.Run.{run as served, LetterOf}
+use Rattle.ldc.specs.Run.{LetterOf}
 use Rattle.book.specs.Pieces.{lent}
 use Rattle.serve_list.specs.Ran.{ran}
 use Rattle.store_run.specs.declared.Ran.{Ran}
@@ -52,7 +52,7 @@ use Rattle.store_owned.specs.declared.Continued.{Continued}
 use Rattle.store_owned.proofs.Continued as K
 use Rattle.store_owned.proofs.Continued.Laws as K′
 use Rattle.store_cards.proofs.Card.Laws as T′
-use Rattle.store_structs.specs.Over.{Over}
+use Rattle.store_structs.specs.Over.{runOver, Left}
 use Rattle.store_structs.proofs.run as core-fn
 use Rattle.store_structs.proofs.run.Symbol as core-def
 use Rattle.store_structs.proofs.run.Symbol.{name as #core}
@@ -108,9 +108,7 @@ module _ {M : Type 1} (𝓤 : URA M) (H : Heap 𝓤) (A : Atoms 𝓤) (W : Given
 
   -- what the call says, at the result r and what is left
   abbrev Claim : Ran → List ℕ → List Card → List (List ℕ) → List ℕ → List ℕ → List ℕ → List ℕ → Type 0
-  Claim r A′ C′ L′ I′ H′ M′ N′ = Over (x₃ .now) cs
-      (((ran (r .number) (r .served) (r .written) (lent A′ (rowsOf C′) I′ H′ M′) N′ ≡ served (lent (x₁ .now) (rowsOf cs) (x₄ .now) (x₅ .now) (x₆ .now)) (x₇ .now) (x₈ .now)) × LetterOf (lent (x₁ .now) (rowsOf cs) (x₄ .now) (x₅ .now) (x₆ .now)) (r .number) (r .letter)) × (L′ ≡ rowsOf C′))
-      (((ran (r .number) (r .served) (r .written) (lent A′ L′ I′ H′ M′) N′ ≡ ran 1 0 0 (lent (x₁ .now) (x₃ .now) (x₄ .now) (x₅ .now) (x₆ .now)) (x₈ .now)) × (r .letter ≡ 0)) × (C′ ≡ cs))
+  Claim r A′ C′ L′ I′ H′ M′ N′ = (ran (r .number) (r .served) (r .written) (lent A′ (rowsOf C′) I′ H′ M′) N′ ≡ runOver (x₃ .now) (lent (x₁ .now) (rowsOf cs) (x₄ .now) (x₅ .now) (x₆ .now)) (x₇ .now) (x₈ .now)) × (LetterOf (lent (x₁ .now) (rowsOf cs) (x₄ .now) (x₅ .now) (x₆ .now)) (r .number) (r .letter) × Left (r .number) (x₃ .now) L′ cs C′)
 
   abbrev Tokens : Item 𝓤
   Tokens = ‵ (flft κ₀ q₀) ⊛ ‵ (flft κ₁ q₁) ⊛ ‵ (flft κ₂ q₂) ⊛ ‵ (flft κ₃ q₃) ⊛ ‵ (flft κ₄ q₄) ⊛ ‵ (flft κ₅ q₅) ⊛ ‵ (flft κ₆ q₆) ⊛ ‵ ftrue

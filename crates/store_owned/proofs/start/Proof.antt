@@ -43,14 +43,13 @@ use denote.Signature.{plain}
 use Rattle.store_cards.specs.Card.{rowsOf}
 use Rattle.store_cards.specs.declared.Card.{Card}
 use Rattle.store_cards.proofs.Card as T
-use Rattle.ldc.specs.Run.{make as makes}
 use Rattle.book.specs.Made.{made}
 use Rattle.book.specs.Pieces.{lent}
 use Rattle.store_owned.specs.declared.Started.{Started}
 use Rattle.store_owned.proofs.Started as K
 use Rattle.store_owned.proofs.Started.Laws as K′
 use Rattle.store_cards.proofs.Card.Laws as T′
-use Rattle.store_structs.specs.Over.{Over}
+use Rattle.store_structs.specs.Over.{makeOver, Left}
 use Rattle.store_structs.proofs.make as core-fn
 use Rattle.store_structs.proofs.make.Symbol as core-def
 use Rattle.store_structs.proofs.make.Symbol.{name as #core}
@@ -100,9 +99,7 @@ module _ {M : Type 1} (𝓤 : URA M) (H : Heap 𝓤) (A : Atoms 𝓤) (W : Given
 
   -- what the call says, at the result r and what is left
   abbrev Claim : ℕ → List ℕ → List Card → List (List ℕ) → List ℕ → List ℕ → List ℕ → Type 0
-  Claim r A′ C′ L′ I′ H′ M′ = Over (x₃ .now) cs
-      ((made r (lent A′ (rowsOf C′) I′ H′ M′) ≡ makes (lent (x₁ .now) (rowsOf cs) (x₄ .now) (x₅ .now) (x₆ .now)) t) × (L′ ≡ rowsOf C′))
-      ((made r (lent A′ L′ I′ H′ M′) ≡ made 1 (lent (x₁ .now) (x₃ .now) (x₄ .now) (x₅ .now) (x₆ .now))) × (C′ ≡ cs))
+  Claim r A′ C′ L′ I′ H′ M′ = (made r (lent A′ (rowsOf C′) I′ H′ M′) ≡ makeOver (x₃ .now) (lent (x₁ .now) (rowsOf cs) (x₄ .now) (x₅ .now) (x₆ .now)) t) × Left r (x₃ .now) L′ cs C′
 
   abbrev Tokens : Item 𝓤
   Tokens = ‵ (flft κ₀ q₀) ⊛ ‵ (flft κ₁ q₁) ⊛ ‵ (flft κ₂ q₂) ⊛ ‵ (flft κ₃ q₃) ⊛ ‵ (flft κ₄ q₄) ⊛ ‵ ftrue

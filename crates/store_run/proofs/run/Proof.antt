@@ -1,88 +1,59 @@
--- `run` meets its contract, by its ways out: each test has the answer that the definition's test has; what is served, is served by `serve_all`.
+-- `run` meets its contract, by its ways out: refused early by `refusal`, refused for the store by `check`, or served by `serve_all`.
 use Prim.Native.Nat.{ℕ}
 use mathlib.Core.Path.{_≡_, refl, sym, _∙_, ap}
-use mathlib.Core.Bool.{true}
 use mathlib.Core.List.{List}
 use borrow.Author.Needs.{needs}
-use borrow.Author.Tests.{not-true, not-false}
 use lib.ListN.{length}
-use Rattle.ldc.specs.Lent.{Lent, sizesGood, storeOf}
-use Rattle.ldc.specs.Lists.{isSome}
-use Rattle.ldc.specs.Run.{split, serveAll, acceptedRun}
+use Rattle.ldc.specs.Lent.{Lent, storeOf}
+use Rattle.ldc.specs.Run.{accepted, unsound, serveAll, acceptedRun}
 use Rattle.book.specs.Pieces.{lent}
 use Rattle.read.specs.Shown.{Kept}
 use Rattle.serve_list.specs.Ran.{ran, requestsOf}
-use Rattle.store_run.proofs.Runs.{run-sizes, run-short, run-no-list, run-unsound, run-served, refused-ran, check-sound, check-unsound, check-five, letter-none}
+use Rattle.store_run.specs.Early.{earlyNumber}
+use Rattle.store_run.proofs.Runs.{Passed, passed, early-not-unsound, run-early, run-unsound, run-served, refused-ran, check-sound, check-unsound, check-five, letter-none}
 use Rattle.store_run.proofs.run.Statement.{statement}
 use Rattle.store_run.proofs.run.Tie as tie
 
 -- The lent memory at the start.
-abbrev before : tie.After-slice-known3 → Lent
-before c = let a = c .before .before .before .before .args in lent (a .area .now) (a .cards .now) (a .lists .now) (a .head .now) (a .memory .now)
+abbrev before : tie.After-refusal → Lent
+before c = let a = c .before .before .before .before .before .args in lent (a .area .now) (a .cards .now) (a .lists .now) (a .head .now) (a .memory .now)
 
--- Its sizes are good.
-sized : (c : tie.Else1) → sizesGood (before (c .before .before)) ≡ true
-sized c = sym (c .before .sizes .ensures (before (c .before .before)) refl refl refl) ∙ not-false _ (c .if1 .left)
+abbrev list-in : tie.After-refusal → List ℕ
+list-in c = c .before .before .before .before .before .args .list .now
 
--- The list is one.
-listed : (c : tie.Else3) → isSome (split (c .before .before .before .before .before .before .before .before .before .args .list .now)) ≡ true
-listed c = sym (c .before .is-list .ensures) ∙ not-false _ (c .if3 .left)
+abbrev answer-in : tie.After-refusal → List ℕ
+answer-in c = c .before .before .before .before .before .args .answer .now
 
-sizes-requires : tie.Need-sizes-requires
-sizes-requires c κs = search needs
+-- The number that `refusal` gave.
+early : (c : tie.After-refusal) → c .refusal .result ≡ earlyNumber (before c) (length (answer-in c)) (list-in c)
+early c = c .refusal .ensures (before c) refl refl refl
+
+-- Nothing was refused early.
+past : (c : tie.Else1) → Passed (before (c .before)) (list-in (c .before)) (answer-in (c .before))
+past c = passed (before (c .before)) (list-in (c .before)) (answer-in (c .before)) (sym (early (c .before)) ∙ c .if1 .left)
+
+refusal-requires : tie.Need-refusal-requires
+refusal-requires c κs = search needs
 
 refused-requires : tie.Need-refused-requires
 refused-requires c κs = search needs
 
 returns : tie.Need-returns
 returns c =
-    let k = c .before .before .before in
-    let a = k .before .before .before .before .args in
+    let k = c .before .before in
     let m = before k in
+    let n = earlyNumber m (length (answer-in k)) (list-in k) in
     let e = c .refused .ensures in
-    let z = sym (c .before .before .sizes .ensures m refl refl refl) ∙ not-true _ (c .before .if1 .taken) in (
-      refused-ran m (a .list .now) (a .answer .now) 1 _ _ _ (e .0) (e .1 .1 .0) (e .1 .1 .1) (run-sizes m (a .list .now) (a .answer .now) z),
-      letter-none m _ _ (rw (e .0)) (e .1 .0),
-    )
-
-refused-requires-2 : tie.Need-refused-requires-2
-refused-requires-2 c κs = search needs
-
-returns-2 : tie.Need-returns-2
-returns-2 c =
-    let i = c .before .before in
-    let k = i .before .before in
-    let a = k .before .before .before .before .args in
-    let m = before k in
-    let e = c .refused2 .ensures in (
-      refused-ran m (a .list .now) (a .answer .now) 3 _ _ _ (e .0) (e .1 .1 .0) (e .1 .1 .1) (run-short m (a .list .now) (a .answer .now) (sized i) (c .before .if2 .taken)),
-      letter-none m _ _ (rw (e .0)) (e .1 .0),
-    )
-
-is-list-requires : tie.Need-is-list-requires
-is-list-requires c κs = search needs
-
-refused-requires-3 : tie.Need-refused-requires-3
-refused-requires-3 c κs = search needs
-
-returns-3 : tie.Need-returns-3
-returns-3 c =
-    let l = c .before .before in
-    let j = l .before in
-    let i = j .before in
-    let k = i .before .before in
-    let a = k .before .before .before .before .args in
-    let m = before k in
-    let e = c .refused3 .ensures in (
-      refused-ran m (a .list .now) (a .answer .now) 4 _ _ _ (e .0) (e .1 .1 .0) (e .1 .1 .1) (run-no-list m (a .list .now) (a .answer .now) (sized i) (j .if2 .left) (sym (l .is-list .ensures) ∙ not-true _ (c .before .if3 .taken))),
-      letter-none m _ _ (rw (e .0)) (e .1 .0),
+    let number = e .0 ∙ early k in (
+      refused-ran m (list-in k) (answer-in k) n _ _ _ number (e .1 .1 .0) (e .1 .1 .1) (run-early m (list-in k) (answer-in k) (λ z. c .before .if1 .taken (early k ∙ z))),
+      letter-none m _ _ (rw number (early-not-unsound m (length (answer-in k)) (list-in k))) (e .1 .0),
     )
 
 check-requires : tie.Need-check-requires
 check-requires c κs = search needs
 
-refused-requires-4 : tie.Need-refused-requires-4
-refused-requires-4 c κs = search needs
+refused-requires-2 : tie.Need-refused-requires-2
+refused-requires-2 c κs = search needs
 
 same-length : tie.Need-same-length
 same-length c = search needs
@@ -93,18 +64,18 @@ same-length-2 c = search needs
 same-length-3 : tie.Need-same-length-3
 same-length-3 c = search needs
 
-returns-4 : tie.Need-returns-4
-returns-4 c =
+returns-2 : tie.Need-returns-2
+returns-2 c =
     let d = c .before .before .before in
-    let l = d .before .before .before .before .before .before in
-    let j = l .before .before in
-    let i = j .before in
-    let k = i .before .before in
-    let a = k .before .before .before .before .args in
+    let i = d .before .before .before .before .before .before in
+    let k = i .before in
     let m = before k in
-    let e = c .refused4 .ensures in
-    let five = check-five m (sized i) (d .check .result .number) (d .check .ensures .number-is) (c .before .if4 .taken) in (
-      refused-ran m (a .list .now) (a .answer .now) 5 _ _ _ (e .0) (e .1 .1 .0) (e .1 .1 .1) (run-unsound m (a .list .now) (a .answer .now) (sized i) (j .if2 .left) (listed l) (check-unsound m (sized i) (d .check .result .number) (d .check .ensures .number-is) (c .before .if4 .taken))),
+    let z = past i .sizes in
+    let e = c .refused2 .ensures in
+    let n = d .check .result .number in
+    let says = d .check .ensures .number-is in
+    let five = check-five m z n says (c .before .if2 .taken) in (
+      refused-ran m (list-in k) (answer-in k) unsound _ _ _ (e .0) (e .1 .1 .0) (e .1 .1 .1) (run-unsound m (list-in k) (answer-in k) (past i) (check-unsound m z n says (c .before .if2 .taken))),
       rw (e .0, e .1 .0) (rw five at (d .check .ensures .letter-of)),
     )
 
@@ -120,13 +91,11 @@ serve-all-requires c κs =
     let w = c .before .before .before .before .before .before .before in
     let f = c .before .before .before .before .before .before .before .before .before in
     let d = c .before .before .before .before .before .before .before .before .before .before .before in
-    let l = d .before .before .before .before .before .before in
-    let i = l .before .before .before in
-    let k = i .before .before in
-    let m = before k in
-    let z = sized i in
-    let kept : Kept m = record { sizes = z; unbroken = check-sound m z (d .check .result .number) (d .check .ensures .number-is) (f .if4 .left) } in
-    (record { wide = w .rows-wide .ensures; memory = c .before .serve-all-arg4 .given .0 .1; kept = rw (r .read .ensures) kept }, listed l)
+    let i = d .before .before .before .before .before .before in
+    let m = before (i .before) in
+    let z = past i .sizes in
+    let kept : Kept m = record { sizes = z; unbroken = check-sound m z (d .check .result .number) (d .check .ensures .number-is) (f .if2 .left) } in
+    (record { wide = w .rows-wide .ensures; memory = c .before .serve-all-arg4 .given .0 .1; kept = rw (r .read .ensures) kept }, past i .listed)
 
 write-requires : tie.Need-write-requires
 write-requires c κs = search needs
@@ -143,45 +112,37 @@ same-length-6 c = search needs
 same-length-7 : tie.Need-same-length-7
 same-length-7 c = search needs
 
-returns-5 : tie.Need-returns-5
-returns-5 c =
+returns-3 : tie.Need-returns-3
+returns-3 c =
     let n = c .before .before .before .before .before .before .before .before .before .before in
     let r = n .before .before .before in
     let f = n .before .before .before .before .before .before .before .before .before .before in
     let d = n .before .before .before .before .before .before .before .before .before .before .before .before in
-    let l = d .before .before .before .before .before .before in
-    let j = l .before .before in
-    let i = j .before in
-    let k = i .before .before in
-    let a = k .before .before .before .before .args in
+    let i = d .before .before .before .before .before .before in
+    let k = i .before in
+    let a = k .before .before .before .before .before .args in
     let m = before k in
-    let z = sized i in
-    let b = check-sound m z (d .check .result .number) (d .check .ensures .number-is) (f .if4 .left) in (
-      ap (λ (x : List ℕ). ran 0 (n .serve-all .result .served) (n .serve-all .result .written) (lent (n .serve-all .last .0) (n .serve-all .last .1 .0) (n .serve-all .last .1 .1 .0) x (n .serve-all .last .1 .1 .1 .1 .0)) (n .serve-all .last .1 .1 .1 .1 .1 .1 .0)) (c .write .ensures)
+    let b = check-sound m (past i .sizes) (d .check .result .number) (d .check .ensures .number-is) (f .if2 .left) in (
+      ap (λ (x : List ℕ). ran accepted (n .serve-all .result .served) (n .serve-all .result .written) (lent (n .serve-all .last .0) (n .serve-all .last .1 .0) (n .serve-all .last .1 .1 .0) x (n .serve-all .last .1 .1 .1 .1 .0)) (n .serve-all .last .1 .1 .1 .1 .1 .1 .0)) (c .write .ensures)
           ∙ n .serve-all .ensures
           ∙ ap (λ (x : List ℕ). acceptedRun (serveAll (length (a .answer .now)) (storeOf (lent (a .area .now) (a .cards .now) (a .lists .now) x (a .memory .now))) (requestsOf (a .list .now))) (a .answer .now)) (r .read .ensures)
-          ∙ sym (run-served m (a .list .now) (a .answer .now) z (j .if2 .left) (listed l) b),
-      letter-none m 0 0 refl refl,
+          ∙ sym (run-served m (a .list .now) (a .answer .now) (past i) b),
+      letter-none m accepted 0 refl refl,
     )
 
 pub run-spec : {M : Type 1} → statement M
 run-spec =
     tie.close
     (tie.spec
-    sizes-requires
+    refusal-requires
     refused-requires
     returns
-    refused-requires-2
-    returns-2
-    is-list-requires
-    refused-requires-3
-    returns-3
     check-requires
-    refused-requires-4
+    refused-requires-2
     same-length
     same-length-2
     same-length-3
-    returns-4
+    returns-2
     rows-wide-requires
     read-requires
     serve-all-requires
@@ -190,4 +151,4 @@ run-spec =
     same-length-5
     same-length-6
     same-length-7
-    returns-5)
+    returns-3)

@@ -1,13 +1,15 @@
 -- `survey_list` meets its contract: what it makes is the new store, and the rows are the cards' words.
-use mathlib.Core.Path.{refl, ap, _∙_}
+use mathlib.Core.Path.{refl, sym, ap, _∙_}
 use mathlib.Core.List.{List}
 use Prim.Native.Nat.{ℕ}
 use borrow.Author.Needs.{needs}
+use lib.ListN.{replicate}
 use Rattle.survey_program.proofs.survey_list.Statement.{statement}
 use Rattle.survey_program.proofs.survey_list.Tie as tie
 use Rattle.book.specs.Pieces.{lent}
 use Rattle.book.proofs.Made.{blank}
-use Rattle.store_cards.proofs.Words.{rows-length}
+use Rattle.store_cards.specs.Card.{rowsOf}
+use Rattle.store_structs.proofs.Ways.{rows-follow, make-same}
 use Rattle.survey_deliver.proofs.Fresh.{made-one}
 
 card-of-requires : tie.Need-card-of-requires
@@ -35,12 +37,16 @@ slice-aggregate-deliver-3 : tie.Need-slice-aggregate-deliver-3
 slice-aggregate-deliver-3 c = search needs
 
 deliver-requires : tie.Need-deliver-requires
+unfolding rowsOf
 deliver-requires c κs =
-    let s = c .before .before .before .before .before .before .before .before .before .start in
-    let d = s .ensures .0 refl in (
-      ap (λ (rows : List (List ℕ)). lent (s .last .0) rows (s .last .1 .1 .1 .0) (s .last .1 .1 .1 .1 .0) (s .last .1 .1 .1 .1 .1 .0)) (d .1)
-          ∙ made-one _ _ _ (blank 32768) (rows-length _) refl (d .0),
-      d .1,
+    let k = c .before .before .before .before .before .before .before .before .before in
+    let s = k .start in
+    let d = s .ensures in
+    let words = k .before .before .before .before .before .before .card-of .ensures in
+    let follow = rows-follow _ _ _ _ _ (d .1) (ap (λ (w : List ℕ). replicate 32 w) (sym words)) in (
+      ap (λ (rows : List (List ℕ)). lent (s .last .0) rows (s .last .1 .1 .1 .0) (s .last .1 .1 .1 .1 .0) (s .last .1 .1 .1 .1 .1 .0)) follow
+          ∙ made-one _ _ _ (blank 32768) refl refl (d .0 ∙ sym (make-same _ _ 4 refl)),
+      follow,
     )
 
 returns : tie.Need-returns
