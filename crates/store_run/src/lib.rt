@@ -97,7 +97,7 @@ pub fn run(
         return refused(early, 0);
     }
     let checked = check_store::check(area, cards, lists, head, memory);
-    if checked.number != 6 {
+    if checked.number != results::ACCEPTED {
         return refused(results::UNSOUND, checked.letter);
     }
     rows_wide(cards);

@@ -1,4 +1,5 @@
--- The list behind its first requests: what stands from a position on is a list of its own, with the requests from there on.
+-- The list behind its first requests: what stands from a position on is a list of its own, with the requests from there on. How many bytes the
+-- first requests take is added up one request at a time: by induction on how many they are.
 use Prim.Native.Nat.{ℕ, zero, suc, _+_, _-_, _≤_, _<_}
 use mathlib.Core.Path.{_≡_, refl, sym, _∙_, ap}
 use mathlib.Core.Bool.{true, true≢false}
@@ -7,18 +8,19 @@ use mathlib.Core.Option.{Option, some, none, Option·map, Option·getD}
 use native.Mathlib.Omega.{arith}
 use borrow.Author.Tests.{leb-true, leb-false, le-leb, lt-leb, eq-eqb, ne-eqb, eqb-true, eqb-false}
 use lib.Dec.{leb, eqb}
-use lib.ListN.{length, getD, drop, length-drop}
-use lib.Seq.{drop-drop, getD-drop}
+use lib.ListN.{length, getD, take, drop, length-drop}
+use lib.Seq.{drop-drop, getD-drop, length-take-le}
 use Rattle.coding.specs.Number.{numberAt}
 use Rattle.coding.proofs.NumberLaws.{numberAt-cong}
 use Rattle.table.specs.Entry.{lengthAt}
 use Rattle.ldc.specs.Lists.{isSome}
 use Rattle.ldc.specs.Request.{Request}
 use Rattle.ldc.specs.Run.{listLimit, requestAt, wholeAt, splitAt, split}
-use Rattle.ldc.proofs.Basics.Cases.{cases}
+use Rattle.ldc.proofs.Basics.Cases.{cases, maybe}
 use Rattle.wire.specs.Rest.{rest}
-use Rattle.wire.proofs.Splits.{whole-fits, rest-all, rest-long, rest-end, rest-turn, rest-broken, some-map}
+use Rattle.wire.proofs.Splits.{whole-fits, rest-all, rest-long, rest-end, rest-turn, rest-broken}
 use Rattle.serve_list.specs.Ran.{requestsOf}
+use Rattle.survey_deliver.specs.Whole.{sizeOf, positionOf}
 
 -- ---- a list from a position on
 
@@ -78,6 +80,10 @@ module _ (bytes : List ℕ) (at : ℕ) (h : at ≤ length bytes) where
 
 -- ---- how many there are
 
+getD-more : (r : Request) (o : Option (List Request)) → isSome o ≡ true → Option·getD (Option·map (λ rs. r ∷ rs) o) [] ≡ r ∷ Option·getD o []
+getD-more r none h = absurd (true≢false (sym h))
+getD-more r (some rs) h = refl
+
 some-is : (o : Option (List Request)) → isSome o ≡ true → o ≡ some (Option·getD o [])
 some-is none h = absurd (true≢false (sym h))
 some-is (some rs) h = refl
@@ -120,75 +126,116 @@ split-some bytes rs h e =
     (λ w. some-more (requestAt bytes 0) (rest bytes (0 + lengthAt bytes 0)) rs (sym (rest-turn bytes 0 h w) ∙ sym all ∙ e))
     (λ w. absurd (true≢false (sym (ap isSome (sym (rest-broken bytes 0 h w) ∙ sym all ∙ e)))))
 
--- ---- passing the first requests
+-- ---- one request further
 
 -- The requests from a position on.
-abbrev from : List ℕ → (at : ℕ) → List Request
+abbrev pub from : List ℕ → (at : ℕ) → List Request
 from list at = Option·getD (rest list at) []
+
+none-there : {o : Option (List Request)} → o ≡ none → 0 < length (Option·getD o []) → ⊥
+none-there q h = omega (arith, ap (λ o. length (Option·getD o [])) q)
+
+module _ (list : List ℕ) (at : ℕ) (within : at ≤ length list) (more : 0 < length (from list at)) where
+  inside : at < length list
+  inside =
+      cases (leb (length list) at)
+      (λ q. let n : length (from list at) ≡ 0 = ap (λ o. length (Option·getD o [])) (rest-end list at (leb-true (length list) at q) within) in
+      absurd (omega arith))
+      (λ q. leb-false (length list) at q)
+
+  here : wholeAt list at ≡ true
+  here = cases (wholeAt list at) (λ q. q) (λ q. absurd (none-there (rest-broken list at inside q) more))
+
+  pub whole-here : (at + 4 ≤ length list) × ((4 ≤ lengthAt list at) × (at + lengthAt list at ≤ length list))
+  whole-here = whole-fits list at here
+
+  pub listed-next : isSome (rest list (at + lengthAt list at)) ≡ true
+  listed-next =
+      maybe (rest list (at + lengthAt list at))
+      (λ q. absurd (none-there (rest-turn list at inside here ∙ ap (Option·map (λ (rs : List Request). requestAt list at ∷ rs)) q) more))
+      (λ rs q. ap isSome q)
+
+  pub first-here : from list at ≡ requestAt list at ∷ from list (at + lengthAt list at)
+  first-here = ap (λ o. Option·getD o []) (rest-turn list at inside here) ∙ getD-more (requestAt list at) (rest list (at + lengthAt list at)) listed-next
+
+  pub size-here : 4 + length (requestAt list at .body) ≡ lengthAt list at
+  unfolding requestAt
+  size-here =
+      let f = whole-here in
+      let l = length-take-le (lengthAt list at - 4) (drop (at + 4) list) (omega (arith, length-drop (at + 4) list, f .1 .1)) in
+      omega (arith, l, f .1 .0)
+
+-- ---- behind the first requests
+
+-- Where so many requests end that begin at a position.
+abbrev endsAt : List ℕ → (at n : ℕ) → ℕ
+endsAt list at n = at + sizeOf (take n (from list at))
+
+ends-turn : (list : List ℕ) (at n : ℕ) → at ≤ length list → 0 < length (from list at) → endsAt list at (suc n) ≡ endsAt list (at + lengthAt list at) n
+ends-turn list at n h m = rw (first-here list at h m) (omega (arith, size-here list at h m))
+
+behind : (n : ℕ) (list : List ℕ) (at : ℕ) → at ≤ length list → isSome (rest list at) ≡ true → n ≤ length (from list at)
+    → (endsAt list at n ≤ length list) × (rest list (endsAt list at n) ≡ some (drop n (from list at)))
+behind zero list at h s f = let z : endsAt list at 0 ≡ at = omega arith in (omega arith, rw z (some-is (rest list at) s))
+behind (suc n) list at h s f =
+    let m : 0 < length (from list at) = omega arith in
+    let first = first-here list at h m in
+    let next = behind n list (at + lengthAt list at) (whole-here list at h m .1 .1) (listed-next list at h m) (omega (arith, ap length first)) in
+    let e = ends-turn list at n h m in
+    (omega (arith, next .0, e), ap (rest list) e ∙ next .1 ∙ ap (λ (rs : List Request). some (drop (suc n) rs)) (sym first))
+
+module _ (list : List ℕ) (n : ℕ) (few : n ≤ length (requestsOf list)) where
+  start-of : length list ≤ listLimit → from list 0 ≡ requestsOf list
+  start-of l = ap (λ o. Option·getD o []) (sym (rest-all list l))
+
+  start-ends : length list ≤ listLimit → endsAt list 0 n ≡ positionOf list n
+  unfolding positionOf
+  start-ends l = ap (λ (rs : List Request). 0 + sizeOf (take n rs)) (start-of l) ∙ omega arith
+
+  -- The rest of a list behind its first requests is a list, with the other requests.
+  pub split-others : isSome (split list) ≡ true → (positionOf list n ≤ length list) × (split (drop (positionOf list n) list) ≡ some (drop n (requestsOf list)))
+  split-others s =
+      let l = split-short list s in
+      let b = behind n list 0 (omega arith) (ap isSome (sym (rest-all list l)) ∙ s) (rw (start-of l) few) in
+      let e = start-ends l in
+      let h : positionOf list n ≤ length list = omega (arith, b .0, e) in
+      (h, split-rest list (positionOf list n) h l ∙ ap (rest list) (sym e) ∙ b .1 ∙ ap (λ (rs : List Request). some (drop n rs)) (start-of l))
+
+-- ---- the loop of `skip`
 
 -- At this position so many are left to be passed.
 pub record Passed (list : List ℕ) (count at left : ℕ) : Type 0 where
   pub within : at ≤ length list
-  pub short : length list ≤ listLimit
-  pub listed : isSome (rest list at) ≡ true
   pub few : left ≤ length (from list at)
-  pub others : drop left (from list at) ≡ drop count (requestsOf list)
+  pub ends : endsAt list at left ≡ positionOf list count
 
-pub passed-start : (list : List ℕ) (count : ℕ) → isSome (split list) ≡ true → count ≤ length (requestsOf list) → Passed list count 0 count
-passed-start list count h f =
-    let l = split-short list h in
-    let e = rest-all list l in
-    record {
-      within = omega arith;
-      short = l;
-      listed = ap isSome (sym e) ∙ h;
-      few = rw e at f;
-      others = rw e;
-    }
-
-getD-more : (r : Request) (o : Option (List Request)) → isSome o ≡ true → Option·getD (Option·map (λ rs. r ∷ rs) o) [] ≡ r ∷ Option·getD o []
-getD-more r none h = absurd (true≢false (sym h))
-getD-more r (some rs) h = refl
-
-drop-one : (left : ℕ) (r : Request) (rs : List Request) → 0 < left → drop left (r ∷ rs) ≡ drop (left - 1) rs
-drop-one zero r rs h = absurd (omega arith)
-drop-one (suc left) r rs h = let e : suc left - 1 ≡ left = omega arith in rw e
+pub passed-start : (list : List ℕ) (count : ℕ) → count ≤ length (requestsOf list) → Passed list count 0 count
+unfolding positionOf
+passed-start list count f =
+    cases (leb (length list) listLimit)
+    (λ q. let l = leb-true (length list) listLimit q in
+    record { within = omega arith; few = rw (start-of list count f l) f; ends = start-ends list count f l })
+    (λ q. let n : length (requestsOf list) ≡ 0 = ap (λ o. length (Option·getD o [])) (rest-long list (leb-false (length list) listLimit q)) in
+    let z : count ≡ 0 = omega arith in
+    rw z (record { within = omega arith; few = omega arith; ends = refl }))
 
 module _ {list : List ℕ} {count at left : ℕ} (p : Passed list count at left) (more : 0 < left) where
-  inside : at < length list
-  inside =
-      cases (leb (length list) at)
-      (λ q. let e = rest-end list at (leb-true (length list) at q) (p .within) in
-      let n : length (from list at) ≡ 0 = ap (λ o. length (Option·getD o [])) e in
-      absurd (omega (arith, p .few, n)))
-      (λ q. leb-false (length list) at q)
-
-  here : wholeAt list at ≡ true
-  here =
-      cases (wholeAt list at) (λ q. q)
-      (λ q. absurd (true≢false (sym (p .listed) ∙ ap isSome (rest-broken list at inside q))))
+  some-left : 0 < length (from list at)
+  some-left = omega (arith, p .few)
 
   pub passed-fits : (at + 4 ≤ length list) × ((4 ≤ lengthAt list at) × (at + lengthAt list at ≤ length list))
-  passed-fits = whole-fits list at here
+  passed-fits = whole-here list at (p .within) some-left
 
   pub passed-turn : (n : ℕ) → n ≡ lengthAt list at → Passed list count (at + n) (left - 1)
   passed-turn n e =
-      let turn = rest-turn list at inside here in
-      let next = rest list (at + lengthAt list at) in
-      let some′ : isSome next ≡ true = sym (some-map (requestAt list at) next) ∙ ap isSome (sym turn) ∙ p .listed in
-      let first : from list at ≡ requestAt list at ∷ from list (at + lengthAt list at) =
-      ap (λ o. Option·getD o []) turn ∙ getD-more (requestAt list at) next some′ in
+      let one : left ≡ suc (left - 1) = omega arith in
       rw e (record {
         within = passed-fits .1 .1;
-        short = p .short;
-        listed = some′;
-        few = omega (arith, p .few, ap length first);
-        others = sym (drop-one left (requestAt list at) (from list (at + lengthAt list at)) more) ∙ ap (λ (rs : List Request). drop left rs) (sym first) ∙ p .others;
+        few = omega (arith, p .few, ap length (first-here list at (p .within) some-left));
+        ends = sym (ends-turn list at (left - 1) (p .within) some-left) ∙ ap (endsAt list at) (sym one) ∙ p .ends;
       })
 
-pub passed-end : {list : List ℕ} {count at left : ℕ} → Passed list count at left → left ≤ 0
-    → (at ≤ length list) × (split (drop at list) ≡ some (drop count (requestsOf list)))
+pub passed-end : {list : List ℕ} {count at left : ℕ} → Passed list count at left → left ≤ 0 → at ≡ positionOf list count
 passed-end {list} {count} {at} {left} p h =
     let z : left ≡ 0 = omega arith in
-    let d : drop 0 (from list at) ≡ drop count (requestsOf list) = rw z at (p .others) in
-    (p .within, split-rest list at (p .within) (p .short) ∙ some-is (rest list at) (p .listed) ∙ ap some d)
+    omega (arith, rw z at (p .ends))

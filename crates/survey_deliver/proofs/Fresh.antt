@@ -20,7 +20,7 @@ use Rattle.ldc.proofs.Basics.ListLaws.{parts, length-parts, each-part}
 use Rattle.ldc.proofs.Lent.Round.{chop-parts}
 use Rattle.ldc.specs.Layout.{mostPlaces, fewestPlaces}
 use Rattle.book.specs.Made.{made}
-use Rattle.survey_deliver.specs.Whole.{newOne}
+use Rattle.survey_deliver.specs.Whole.{programThreshold, newOne}
 
 module _ (t n : ℕ) (area : List ℕ) (l : length area ≡ n * placeSize) where
   places : length (chop n area) ≡ n
@@ -60,10 +60,11 @@ thirty-two area a = rw a
 same-new : (t n k : ℕ) (x y : List ℕ) → n ≡ k → x ≡ y → lentOf (newStore t (chop n x)) ≡ lentOf (newStore t (chop k y))
 same-new t n k x y e f = ap (λ (i : ℕ). lentOf (newStore t (chop i x))) e ∙ ap (λ (z : List ℕ). lentOf (newStore t (chop k z))) f
 
-pub made-one : (m m′ : Lent) (number : ℕ) → m .area ≡ zeros 32768 → length (m .cards) ≡ 32 → length (m .lists) ≡ 128
-    → made number m′ ≡ make m 4 → m′ ≡ lentOf newOne
+-- With the program's threshold the store made is the program's.
+pub made-one : (m m′ : Lent) (number t : ℕ) → m .area ≡ zeros 32768 → length (m .cards) ≡ 32 → length (m .lists) ≡ 128
+    → made number m′ ≡ make m t → t ≡ programThreshold → m′ ≡ lentOf newOne
 unfolding newOne
-made-one m m′ number a c l e =
+made-one m m′ number t a c l e four =
     let long : length (m .area) ≡ 32768 = ap length a ∙ length-zeros 32768 in
-    ap (λ (x : Made). x .lent) e ∙ New.made m 4 (sized m long c l) four-good
+    ap (λ (x : Made). x .lent) (e ∙ ap (make m) four) ∙ New.made m 4 (sized m long c l) four-good
     ∙ same-new 4 (placesIn (m .area)) 32 (m .area) (zeros 32768) (thirty-two (m .area) long) a

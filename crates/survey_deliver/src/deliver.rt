@@ -1,10 +1,11 @@
-// Running a list to its end, however little room for answers there is.
+// Running a list to its end, however little room for answers there is: one piece of the answers after the other is made and written.
 ghost use mathlib.Core.Path.{_≡_};
 ghost use Rattle.ldc.specs.Lent.{lentOf};
 ghost use Rattle.book.specs.Pieces.{lent, after};
 ghost use Rattle.store_cards.specs.Card.{rowsOf};
 ghost use Rattle.survey_deliver.specs.Whole.{newOne, Piece, Finished};
-use super::skip;
+use super::piece;
+use super::piece::Progress;
 use book::head::HeadWords;
 use book::row::Row;
 use store_cards::Card;
@@ -33,6 +34,8 @@ fn hand_on(fd: i32, list: &[u8], written: usize, piece: &[u8]) -> bool
 }
 
 // Runs a list over a new store, and after each stop the rest of it over the same store; hands on the answers of each run to a descriptor.
+// No contract can say, so it is read off the loop: each piece made is given to `hand_on`, once and before the next is made, and `failed` is true just
+// where `hand_on` said no. All else is settled: what each piece is, that only the next one is handed on, where the loop can stop, and what is left.
 pub fn deliver(
     fd: i32,
     area: &mut [u8],
@@ -51,41 +54,49 @@ pub fn deliver(
 {
     let mut answer = [0u8; ANSWER_BYTES];
     let mut cards = first;
-    let mut at = 0;
-    let mut served = 0;
-    let mut written = 0;
-    while at < list.len() {
-        let rest = &list[at..];
-        let turn = store_owned::go_on(area, cards, rows, lists, head, memory, rest, &mut answer);
-        let next = turn.cards;
+    let mut progress = Progress {
+        served: 0,
+        at: 0,
+        written: 0,
+    };
+    while progress.at < list.len() {
+        let made = piece::next_piece(
+            area,
+            cards,
+            rows,
+            lists,
+            head,
+            memory,
+            list,
+            progress,
+            &mut answer,
+        );
+        let next = made.cards;
         cards = next;
-        let ran = turn.ran;
-        if ran.number != results::ACCEPTED {
+        let reached = made.progress;
+        if made.number != results::ACCEPTED {
             return Delivered {
-                number: ran.number,
-                served,
-                written,
+                number: made.number,
+                served: reached.served,
+                written: reached.written,
                 failed: false,
             };
         }
-        let n = ran.written;
-        let sent = hand_on(fd, list, written, &answer[..n]);
-        at += skip::skip(rest, ran.served);
-        served += ran.served;
-        written += n;
-        if !sent {
+        let n = made.length;
+        if !hand_on(fd, list, progress.written, &answer[..n]) {
             return Delivered {
                 number: results::ACCEPTED,
-                served,
-                written,
+                served: reached.served,
+                written: reached.written,
                 failed: true,
             };
         }
+        progress = reached;
     }
     Delivered {
         number: results::ACCEPTED,
-        served,
-        written,
+        served: progress.served,
+        written: progress.written,
         failed: false,
     }
 }

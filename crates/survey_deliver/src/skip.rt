@@ -1,20 +1,15 @@
 // The rest of a list behind its first requests.
 ghost use mathlib.Core.Path.{_≡_};
-ghost use mathlib.Core.Bool.{true};
-ghost use mathlib.Core.Option.{some};
 ghost use Prim.Native.Nat.{_≤_};
-ghost use lib.ListN.{length, drop};
-ghost use Rattle.ldc.specs.Lists.{isSome};
-ghost use Rattle.ldc.specs.Run.{split};
+ghost use lib.ListN.{length};
 ghost use Rattle.serve_list.specs.Ran.{requestsOf};
+ghost use Rattle.survey_deliver.specs.Whole.{positionOf};
 use table::entry;
 
 // How many bytes the first `count` requests of a list take: behind them the list of the others begins.
 pub fn skip(list: &[u8], count: usize) -> usize
-    requires { ⌜ (isSome (split (now list)) ≡ true) × (count ≤ length (requestsOf (now list))) ⌝ }
-    ensures { λ r. ⌜
-        (r ≤ length (now (list .entry))) × (split (drop r (now (list .entry))) ≡ some (drop count (requestsOf (now (list .entry)))))
-        ⌝ }
+    requires { ⌜ count ≤ length (requestsOf (now list)) ⌝ }
+    ensures { λ r. ⌜ r ≡ positionOf (now (list .entry)) count ⌝ }
 {
     let mut at = 0;
     let mut left = count;

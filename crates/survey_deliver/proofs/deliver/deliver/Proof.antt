@@ -1,151 +1,139 @@
--- `deliver` meets its contract. The loop's invariant: what was served and handed on is the front of the list and of its answers, memory is that
--- of the store after it, and the rest of the list is left.
-use Prim.Native.Nat.{ℕ, _+_, _-_}
+-- `deliver` meets its contract. The loop's invariant: so far the list is served, at a stop between two pieces, and the rows are the cards' words.
+use Prim.Native.Nat.{ℕ, _-_, _<_}
 use mathlib.Core.Path.{_≡_, refl, sym, _∙_}
 use mathlib.Core.List.{List}
 use native.Mathlib.Omega.{arith}
-use borrow.Author.Needs.{needs}
-use lib.ListN.{length, take, drop}
+use lib.ListN.{length}
 use lib.Seq.{length-take-le}
+use Rattle.coding.specs.Number.{Bytes}
 use Rattle.book.specs.Pieces.{lent}
 use Rattle.store_cards.specs.Card.{rowsOf}
 use Rattle.serve_list.specs.Ran.{requestsOf}
-use Rattle.survey_deliver.proofs.Along.{Along, Stretch, along-start, part-rest, along-refused, along-room, along-piece, along-ready, along-some, along-on, along-at, along-count, along-bytes, along-failed, along-end}
+use Rattle.survey_deliver.specs.Whole.{Reached, pieceRoom, servedAfter}
+use Rattle.survey_deliver.proofs.Along.{reached-start}
+use Rattle.survey_deliver.proofs.Pieces.{next-reached, next-length, next-piece, next-listed, next-some, next-stop, stop-start, end-refused, end-failed, end-all}
 use Rattle.survey_deliver.proofs.deliver.deliver.Statement.{statement}
 use Rattle.survey_deliver.proofs.deliver.deliver.Tie as tie
 
 abbrev Inv-loop : tie.InvT-loop
-Inv-loop fd area₀ rows₀ lists₀ head₀ memory₀ list answer₀ cards₀ at₀ served₀ written₀ area rows lists head memory answer cards at served written =
-    Along list (lent area rows lists head memory) at served written
-    × ((length answer ≡ 4096) × ((length area ≡ length area₀) × ((length rows ≡ length rows₀) × ((length lists ≡ length lists₀) × (rows ≡ rowsOf cards)))))
+Inv-loop fd area₀ rows₀ lists₀ head₀ memory₀ list answer₀ cards₀ progress₀ area rows lists head memory answer cards progress =
+    (Reached list (lent area rows lists head memory) progress × ((k : ℕ) × (progress .served ≡ servedAfter list k)))
+    × ((length answer ≡ pieceRoom) × ((length area ≡ length area₀) × ((length rows ≡ length rows₀) × ((length lists ≡ length lists₀) × (rows ≡ rowsOf cards)))))
 
 abbrev μ-loop : tie.MeasureT-loop
-μ-loop fd area₀ rows₀ lists₀ head₀ memory₀ list answer₀ cards₀ at₀ served₀ written₀ area rows lists head memory answer cards at served written =
-    length (requestsOf list) - served
+μ-loop fd area₀ rows₀ lists₀ head₀ memory₀ list answer₀ cards₀ progress₀ area rows lists head memory answer cards progress =
+    length (requestsOf list) - progress .served
 
 loop-holds : tie.Need-loop-holds Inv-loop μ-loop
 loop-holds c =
-    let b = c .before .before .before in
-    (along-start (b .args .list .now) _ (b .pre .0), (refl, (refl, (refl, (refl, b .pre .1)))))
+    let s = c .before .before .before in
+    ((reached-start (s .args .list .now) _ (s .pre .0), stop-start (s .args .list .now)), (refl, (refl, (refl, (refl, s .pre .1)))))
 
-sub-rest : tie.Need-sub-rest Inv-loop μ-loop
-sub-rest c = c .before .loop .inv .0 .within
+slice-aggregate-next-piece : tie.Need-slice-aggregate-next-piece Inv-loop μ-loop
+slice-aggregate-next-piece c = sym (c .before .before .before .before .before .before .before .before .loop .inv .1 .0)
 
-part-rest-start : tie.Need-part-rest-start Inv-loop μ-loop
-part-rest-start c = c .before .loop .inv .0 .within
+next-piece-requires : tie.Need-next-piece-requires Inv-loop μ-loop
+next-piece-requires c κs = let i = c .before .before .before .before .before .before .before .before .loop .inv in (i .0 .0, (omega (arith, i .1 .0), i .1 .1 .1 .1 .1))
 
-part-rest-end : tie.Need-part-rest-end Inv-loop μ-loop
-part-rest-end c = search needs
+-- ---- after a piece was made
 
-slice-aggregate-go-on : tie.Need-slice-aggregate-go-on Inv-loop μ-loop
-slice-aggregate-go-on c = sym (c .before .before .before .before .before .before .before .before .loop .inv .1 .0)
+abbrev At : Type 0
+At = tie.After-next-piece Inv-loop μ-loop
 
-go-on-requires : tie.Need-go-on-requires Inv-loop μ-loop
-go-on-requires c κs = c .before .before .before .before .before .before .before .before .loop .inv .1 .1 .1 .1 .1
+abbrev turn : At → tie.At-loop Inv-loop μ-loop
+turn r = r .before .before .before .before .before .before .before .before .before
 
--- ---- after the run of the rest
+abbrev whole : At → List ℕ
+whole r = turn r .before .before .before .before .args .list .now
 
--- The run over the rest, from the list to what it left.
-abbrev whole : tie.After-go-on Inv-loop μ-loop → List ℕ
-whole r = r .before .before .before .before .before .before .before .before .before .before .before .before .before .args .list .now
+bytes : (r : At) → Bytes (whole r)
+bytes r = λ i. omega (arith, turn r .before .shared-slice-known .given i)
 
-stretch : (r : tie.After-go-on Inv-loop μ-loop)
-    → let l = r .before .before .before .before .before .before .before .before .before .loop in
-    Stretch (whole r) (lent (l .area) (l .rows) (l .lists) (l .head) (l .memory)) (l .at) (l .served) (l .written)
-    (l .answer) (take (length (whole r) - l .at) (drop (l .at) (whole r)))
-    (r .go-on .result .ran .number) (r .go-on .result .ran .served) (r .go-on .result .ran .written)
-    (lent (r .go-on .last .0) (r .go-on .last .1 .1 .0) (r .go-on .last .1 .1 .1 .0) (r .go-on .last .1 .1 .1 .1 .0) (r .go-on .last .1 .1 .1 .1 .1 .0))
-    (r .go-on .last .1 .1 .1 .1 .1 .1 .1 .0)
-stretch r =
-    let l = r .before .before .before .before .before .before .before .before .before .loop in
-    record {
-      along = l .inv .0;
-      bytes = λ i. omega (arith, r .before .before .before .before .before .before .before .before .before .before .shared-slice-known .given i);
-      room = omega (arith, l .inv .1 .0);
-      same = part-rest (whole r) (l .at);
-      said = r .go-on .ensures .0 .0;
-    }
+-- How far the list is then served, and that this is a stop again.
+onward : (r : At)
+    → Reached (whole r)
+    (lent (r .next-piece .last .0) (r .next-piece .last .1 .1 .0) (r .next-piece .last .1 .1 .1 .0) (r .next-piece .last .1 .1 .1 .1 .0) (r .next-piece .last .1 .1 .1 .1 .1 .0))
+    (r .next-piece .result .progress)
+onward r = next-reached (turn r .loop .inv .0 .0) (r .next-piece .ensures .0)
+
+stop : (r : At) → (k : ℕ) × (r .next-piece .result .progress .served ≡ servedAfter (whole r) k)
+stop r = next-stop (turn r .loop .inv .0 .0) (r .next-piece .ensures .0) (turn r .loop .inv .1 .0) (turn r .loop .inv .0 .1)
+
+more : (r : At) → r .next-piece .result .number ≡ 0 → turn r .loop .progress .served < r .next-piece .result .progress .served
+more r z = let i = turn r .loop .inv in next-some (i .0 .0) (r .next-piece .ensures .0) (omega (arith, i .1 .0)) z (r .before .before .before .before .before .before .before .if1 .taken)
+
+area-length : (r : At) → length (r .next-piece .last .0) ≡ length (turn r .before .before .before .before .args .area .now)
+area-length r = r .next-piece .kept .0 ∙ turn r .loop .inv .1 .1 .0
+
+rows-length : (r : At) → length (r .next-piece .last .1 .1 .0) ≡ length (turn r .before .before .before .before .args .rows .now)
+rows-length r = r .next-piece .kept .1 .1 .0 ∙ turn r .loop .inv .1 .1 .1 .0
+
+lists-length : (r : At) → length (r .next-piece .last .1 .1 .1 .0) ≡ length (turn r .before .before .before .before .args .lists .now)
+lists-length r = r .next-piece .kept .1 .1 .1 .0 ∙ turn r .loop .inv .1 .1 .1 .1 .0
 
 same-length : tie.Need-same-length Inv-loop μ-loop
-same-length c = c .before .before .before .before .before .before .before .before .before .before .go-on .kept .0 ∙ c .before .before .before .before .before .before .before .before .before .before .before .before .before .before .before .before .before .before .before .loop .inv .1 .1 .0
+same-length c = area-length (c .before .before .before .before .before .before .before .before .before .before)
 
 same-length-2 : tie.Need-same-length-2 Inv-loop μ-loop
-same-length-2 c = c .before .before .before .before .before .before .before .before .before .before .go-on .kept .1 .1 .0 ∙ c .before .before .before .before .before .before .before .before .before .before .before .before .before .before .before .before .before .before .before .loop .inv .1 .1 .1 .0
+same-length-2 c = rows-length (c .before .before .before .before .before .before .before .before .before .before)
 
 same-length-3 : tie.Need-same-length-3 Inv-loop μ-loop
-same-length-3 c = c .before .before .before .before .before .before .before .before .before .before .go-on .kept .1 .1 .1 .0 ∙ c .before .before .before .before .before .before .before .before .before .before .before .before .before .before .before .before .before .before .before .loop .inv .1 .1 .1 .1 .0
+same-length-3 c = lists-length (c .before .before .before .before .before .before .before .before .before .before)
 
 returns : tie.Need-returns Inv-loop μ-loop
-returns c = along-refused (stretch (c .before .before .before .before .before .before .before .before .before .before)) (c .if1 .taken)
+returns c = let r = c .before .before .before .before .before .before .before .before .before .before in end-refused (onward r) (stop r) (r .next-piece .result .number) (r .next-piece .ensures .0 .numbered) (c .if2 .taken)
 
 array-share-prefix-answer : tie.Need-array-share-prefix-answer Inv-loop μ-loop
 array-share-prefix-answer c =
     let r = c .before .before .before .before .before .before .before .before .before .before in
-    omega (arith, along-room (stretch r) (c .if1 .left), r .go-on .kept .1 .1 .1 .1 .1 .1 .1 .0)
+    omega (arith, next-length (turn r .loop .inv .0 .0) (r .next-piece .ensures .0) (bytes r), r .next-piece .kept .1 .1 .1 .1 .1 .1 .1 .1 .0)
 
 slice-aggregate-hand-on : tie.Need-slice-aggregate-hand-on Inv-loop μ-loop
 slice-aggregate-hand-on c = sym (length-take-le _ _ (array-share-prefix-answer (c .before)))
 
 hand-on-requires : tie.Need-hand-on-requires Inv-loop μ-loop
-hand-on-requires c κs = along-piece (stretch (c .before .before .before .before .before .before .before .before .before .before .before)) (c .before .if1 .left)
+hand-on-requires c κs = let r = c .before .before .before .before .before .before .before .before .before .before .before in next-piece (turn r .loop .inv .0 .0) (r .next-piece .ensures .0) (bytes r)
 
-skip-requires : tie.Need-skip-requires Inv-loop μ-loop
-skip-requires c κs = along-ready (stretch (c .before .before .before .before .before .before .before .before .before .before .before .before)) (c .before .before .if1 .left)
-
--- ---- after the answers were handed on and the requests passed
-
--- What holds before the next stretch.
-next : (c : tie.After-skip Inv-loop μ-loop)
-    → let r = c .before .before .before .before .before .before .before .before .before .before .before .before .before in
-    let l = r .before .before .before .before .before .before .before .before .before .loop in
-    Along (whole r) (lent (r .go-on .last .0) (r .go-on .last .1 .1 .0) (r .go-on .last .1 .1 .1 .0) (r .go-on .last .1 .1 .1 .1 .0) (r .go-on .last .1 .1 .1 .1 .1 .0))
-    (l .at + c .skip .result) (l .served + r .go-on .result .ran .served) (l .written + r .go-on .result .ran .written)
-next c = along-on (stretch (c .before .before .before .before .before .before .before .before .before .before .before .before .before)) (c .before .before .before .if1 .left) (c .skip .result) (c .skip .ensures)
-
-add-at : tie.Need-add-at Inv-loop μ-loop
-add-at c = omega (arith, along-at (stretch (c .before .before .before .before .before .before .before .before .before .before .before .before .before)) (c .before .before .before .if1 .left) (c .skip .result) (c .skip .ensures))
-
-add-served : tie.Need-add-served Inv-loop μ-loop
-add-served c = omega (arith, along-count (stretch (c .before .before .before .before .before .before .before .before .before .before .before .before .before .before)) (c .before .before .before .before .if1 .left) (c .before .skip .result) (c .before .skip .ensures))
-
-add-written : tie.Need-add-written Inv-loop μ-loop
-add-written c = omega (arith, along-bytes (stretch (c .before .before .before .before .before .before .before .before .before .before .before .before .before .before)) (c .before .before .before .before .if1 .left) (c .before .skip .result) (c .before .skip .ensures))
+-- ---- after it was handed on
 
 same-length-4 : tie.Need-same-length-4 Inv-loop μ-loop
-same-length-4 c = c .before .before .before .before .before .before .before .before .before .before .before .before .before .before .before .go-on .kept .0 ∙ c .before .before .before .before .before .before .before .before .before .before .before .before .before .before .before .before .before .before .before .before .before .before .before .before .loop .inv .1 .1 .0
+same-length-4 c = area-length (c .before .before .before .before .before .before .before .before .before .before .before .before .before)
 
 same-length-5 : tie.Need-same-length-5 Inv-loop μ-loop
-same-length-5 c = c .before .before .before .before .before .before .before .before .before .before .before .before .before .before .before .go-on .kept .1 .1 .0 ∙ c .before .before .before .before .before .before .before .before .before .before .before .before .before .before .before .before .before .before .before .before .before .before .before .before .loop .inv .1 .1 .1 .0
+same-length-5 c = rows-length (c .before .before .before .before .before .before .before .before .before .before .before .before .before)
 
 same-length-6 : tie.Need-same-length-6 Inv-loop μ-loop
-same-length-6 c = c .before .before .before .before .before .before .before .before .before .before .before .before .before .before .before .go-on .kept .1 .1 .1 .0 ∙ c .before .before .before .before .before .before .before .before .before .before .before .before .before .before .before .before .before .before .before .before .before .before .before .before .loop .inv .1 .1 .1 .1 .0
+same-length-6 c = lists-length (c .before .before .before .before .before .before .before .before .before .before .before .before .before)
 
 returns-2 : tie.Need-returns-2 Inv-loop μ-loop
-returns-2 c = along-failed (stretch (c .before .before .before .before .before .before .before .before .before .before .before .before .before .before .before)) (c .before .before .before .before .before .if1 .left) (c .before .before .skip .result) (c .before .before .skip .ensures)
+returns-2 c =
+    let r = c .before .before .before .before .before .before .before .before .before .before .before .before .before in
+    let z = c .before .before .before .if2 .left in
+    end-failed (onward r) (stop r) (next-listed (turn r .loop .inv .0 .0) (r .next-piece .ensures .0) z) (omega (arith, more r z))
 
 loop-less : tie.Need-loop-less Inv-loop μ-loop
-loop-less c =
-    let r = c .before .before .before .before .before .before .before .before .before .before .before .before .before .before .before in
-    omega (arith, next (c .before .before) .counted, along-some (stretch r) (c .before .before .before .before .before .if1 .left) (r .before .before .before .before .before .before .before .before .loop-test .taken))
+loop-less c = let r = c .before .before .before .before .before .before .before .before .before .before .before .before .before in omega (arith, onward r .counted, more r (c .before .before .before .if2 .left))
 
 loop-again : tie.Need-loop-again Inv-loop μ-loop
 loop-again c =
-    let r = c .before .before .before .before .before .before .before .before .before .before .before .before .before .before .before in
-    let l = r .before .before .before .before .before .before .before .before .before .loop in
-    let k = r .go-on .kept in
-    (next (c .before .before), (k .1 .1 .1 .1 .1 .1 .1 .0 ∙ l .inv .1 .0, (k .0 ∙ l .inv .1 .1 .0, (k .1 .1 .0 ∙ l .inv .1 .1 .1 .0, (k .1 .1 .1 .0 ∙ l .inv .1 .1 .1 .1 .0, r .go-on .ensures .1)))))
+    let r = c .before .before .before .before .before .before .before .before .before .before .before .before .before in (
+      (onward r, stop r),
+      (r .next-piece .kept .1 .1 .1 .1 .1 .1 .1 .1 .0 ∙ turn r .loop .inv .1 .0, (area-length r, (rows-length r, (lists-length r, r .next-piece .ensures .1)))),
+    )
+
+-- ---- at the end
 
 same-length-7 : tie.Need-same-length-7 Inv-loop μ-loop
-same-length-7 c = c .before .loop .inv .1 .1 .0
+same-length-7 c = c .before .before .loop .inv .1 .1 .0
 
 same-length-8 : tie.Need-same-length-8 Inv-loop μ-loop
-same-length-8 c = c .before .loop .inv .1 .1 .1 .0
+same-length-8 c = c .before .before .loop .inv .1 .1 .1 .0
 
 same-length-9 : tie.Need-same-length-9 Inv-loop μ-loop
-same-length-9 c = c .before .loop .inv .1 .1 .1 .1 .0
+same-length-9 c = c .before .before .loop .inv .1 .1 .1 .1 .0
 
 returns-3 : tie.Need-returns-3 Inv-loop μ-loop
-returns-3 c = along-end (c .before .loop .inv .0) (c .loop-test .left)
+returns-3 c = let i = c .before .before .loop .inv in end-all (i .0 .0) (i .0 .1) (c .if1 .left)
 
 pub deliver-spec : {M : Type 1} → statement M
 deliver-spec =
@@ -154,11 +142,8 @@ deliver-spec =
     Inv-loop
     μ-loop
     loop-holds
-    sub-rest
-    part-rest-start
-    part-rest-end
-    slice-aggregate-go-on
-    go-on-requires
+    slice-aggregate-next-piece
+    next-piece-requires
     same-length
     same-length-2
     same-length-3
@@ -166,10 +151,6 @@ deliver-spec =
     array-share-prefix-answer
     slice-aggregate-hand-on
     hand-on-requires
-    skip-requires
-    add-at
-    add-served
-    add-written
     same-length-4
     same-length-5
     same-length-6

@@ -1,4 +1,4 @@
--- `skip` meets its contract. The loop's invariant: behind those still to be passed the same requests are left.
+-- `skip` meets its contract. The loop's invariant: those still to be passed end where all do.
 use native.Mathlib.Omega.{arith}
 use borrow.Author.Needs.{needs}
 use Rattle.survey_deliver.proofs.Behind.{Passed, passed-start, passed-fits, passed-turn, passed-end}
@@ -12,7 +12,7 @@ abbrev μ-loop : tie.MeasureT-loop
 μ-loop list count at₀ left₀ at left = left
 
 loop-holds : tie.Need-loop-holds Inv-loop μ-loop
-loop-holds c = passed-start (c .before .args .list .now) (c .before .args .count) (c .before .pre .0) (c .before .pre .1)
+loop-holds c = passed-start (c .before .args .list .now) (c .before .args .count) (c .before .pre)
 
 length-at-requires : tie.Need-length-at-requires Inv-loop μ-loop
 length-at-requires c κs = omega (arith, passed-fits (c .before .loop .inv) (c .loop-test .taken) .0)
@@ -23,7 +23,7 @@ cast-at c = search needs
 add-at : tie.Need-add-at Inv-loop μ-loop
 add-at c =
     let p = c .before .before .loop .inv in
-    omega (arith, passed-fits p (c .before .loop-test .taken) .1 .1, p .short, c .length-at .ensures)
+    omega (arith, passed-fits p (c .before .loop-test .taken) .1 .1, c .length-at .ensures)
 
 sub-left : tie.Need-sub-left Inv-loop μ-loop
 sub-left c = c .before .loop-test .taken
