@@ -4,7 +4,7 @@ ghost use lib.ListN.{length};
 ghost use Rattle.ldc.specs.Run.{run, LetterOf};
 ghost use Rattle.ldc.specs.Layout.{rowSize};
 ghost use Rattle.ldc.specs.Lent.{Lent};
-ghost use Rattle.book.specs.Pieces.{lent, after, before};
+ghost use Rattle.book.specs.Pieces.{after, before};
 ghost use Rattle.book.specs.Rows.{Wide};
 ghost use Rattle.serve_list.specs.Ran.{ran};
 ghost use Rattle.store_run.specs.Early.{earlyNumber};

@@ -8,7 +8,7 @@
 --   ..-as-many                     what was not refused by 1 has as many rows as cards
 use Prim.Native.Nat.{ℕ}
 use mathlib.Core.Path.{_≡_, refl, sym, _∙_, ap}
-use mathlib.Core.Bool.{true, false, cond, _&&_, _||_}
+use mathlib.Core.Bool.{true, false, cond, _&&_}
 use mathlib.Core.List.{List}
 use native.Mathlib.Omega.{arith}
 use borrow.Author.Tests.{eqb-true, eqb-false, eq-eqb, ne-eqb}
@@ -50,10 +50,6 @@ module _ (rows : List (List ℕ)) (m : Lent) (room : ℕ) (list : List ℕ) wher
 -- ---- what the working rows hold
 
 module _ (number : ℕ) (rows : List (List ℕ)) (cards : List Card) where
-  rows-stay : (number ≡ accepted → ⊥) → eqb number unsound ≡ false → rows ≡ rowsAfter number rows cards
-  unfolding rowsAfter
-  rows-stay n u = rw (ne-eqb number accepted n, u)
-
   pub rows-accepted : number ≡ accepted → rowsOf cards ≡ rowsAfter number rows cards
   unfolding rowsAfter
   rows-accepted e = rw e
@@ -61,6 +57,10 @@ module _ (number : ℕ) (rows : List (List ℕ)) (cards : List Card) where
   rows-unsound : number ≡ unsound → rowsOf cards ≡ rowsAfter number rows cards
   unfolding rowsAfter
   rows-unsound e = rw e
+
+  rows-stay : (number ≡ accepted → ⊥) → eqb number unsound ≡ false → rows ≡ rowsAfter number rows cards
+  unfolding rowsAfter
+  rows-stay n u = rw (ne-eqb number accepted n, u)
 
 -- What a call leaves of rows that were the cards' words: the words of the cards that it leaves.
 pub rows-follow : (number : ℕ) (rows lastRows : List (List ℕ)) (cards lastCards : List Card) → Left number rows lastRows cards lastCards → rows ≡ rowsOf cards → lastRows ≡ rowsOf lastCards

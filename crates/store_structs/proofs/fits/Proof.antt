@@ -1,5 +1,4 @@
 -- `fits` meets its contract: its tests are the definition's, by the lengths alone.
-use mathlib.Core.Path.{_≡_}
 use borrow.Author.Needs.{needs}
 use Rattle.store_structs.proofs.fits.Statement.{statement}
 use Rattle.store_structs.proofs.fits.Tie as tie

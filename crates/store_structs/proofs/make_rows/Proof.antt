@@ -1,5 +1,4 @@
 -- `make_rows` meets its contract: its test is the definition's, and what the store's own `make` returns and leaves is said by its contract.
-use mathlib.Core.Path.{_≡_, _∙_}
 use borrow.Author.Needs.{needs}
 use borrow.Author.Tests.{eq-eqb, ne-eqb}
 use lib.ListN.{length}

@@ -1,5 +1,5 @@
 -- `refusal_over` meets its contract: another number of rows is refused by 1, and `refusal` says the rest.
-use mathlib.Core.Path.{_≡_, sym, _∙_}
+use mathlib.Core.Path.{sym, _∙_}
 use borrow.Author.Needs.{needs}
 use Rattle.store_structs.proofs.Ways.{early-other, early-same}
 use Rattle.store_structs.proofs.refusal_over.Statement.{statement}
