@@ -39,7 +39,7 @@ deliver-requires c κs =
     let s = c .before .before .before .before .before .before .before .before .before .start in
     let d = s .ensures .0 refl in (
       ap (λ (rows : List (List ℕ)). lent (s .last .0) rows (s .last .1 .1 .1 .0) (s .last .1 .1 .1 .1 .0) (s .last .1 .1 .1 .1 .1 .0)) (d .1)
-          ∙ made-one _ _ _ _ (blank 32768) (rows-length _) refl (d .0) refl,
+          ∙ made-one _ _ _ _ (d .0) refl (blank 32768) (rows-length _) refl,
       d .1,
     )
 
