@@ -61,10 +61,10 @@ same-new : (t n k : ℕ) (x y : List ℕ) → n ≡ k → x ≡ y → lentOf (ne
 same-new t n k x y e f = ap (λ (i : ℕ). lentOf (newStore t (chop i x))) e ∙ ap (λ (z : List ℕ). lentOf (newStore t (chop k z))) f
 
 -- With the program's threshold the store made is the program's.
-pub made-one : (m m′ : Lent) (number t : ℕ) → m .area ≡ zeros 32768 → length (m .cards) ≡ 32 → length (m .lists) ≡ 128
-    → made number m′ ≡ make m t → t ≡ programThreshold → m′ ≡ lentOf newOne
+pub made-one : (m m′ : Lent) (number t : ℕ) → made number m′ ≡ make m t → t ≡ programThreshold
+    → m .area ≡ zeros 32768 → length (m .cards) ≡ 32 → length (m .lists) ≡ 128 → m′ ≡ lentOf newOne
 unfolding newOne
-made-one m m′ number t a c l e four =
+made-one m m′ number t e four a c l =
     let long : length (m .area) ≡ 32768 = ap length a ∙ length-zeros 32768 in
     ap (λ (x : Made). x .lent) (e ∙ ap (make m) four) ∙ New.made m 4 (sized m long c l) four-good
     ∙ same-new 4 (placesIn (m .area)) 32 (m .area) (zeros 32768) (thirty-two (m .area) long) a

@@ -1,11 +1,13 @@
 -- One piece after the other: the laws of `Next`. Behind the next piece the list is reached again, and the piece is what stands next in the answers.
 -- With room for a reply a piece serves at least one request where bytes are left, so there is an end; there, all requests are served.
-use Prim.Native.Nat.{ℕ, suc, _+_, _*_, _≤_, _<_}
+use Prim.Native.Nat.{ℕ, zero, suc, _+_, _*_, _≤_, _<_}
 use mathlib.Core.Path.{_≡_, refl, sym, _∙_, ap}
 use mathlib.Core.Bool.{Bool, true, false, cond, true≢false}
 use mathlib.Core.List.{List, [], _++_}
 use mathlib.Core.Option.{Option, some, Option·map, Option·getD}
 use native.Mathlib.Omega.{arith}
+use borrow.Author.Tests.{ltb-true, ltb-false}
+use lib.Dec.{ltb, lit≤}
 use lib.ListN.{length, take, drop, length-append, length-drop, drop-of-length-le}
 use lib.Seq.{take-all, drop-at, take-append-seam}
 use Rattle.coding.specs.Number.{Bytes}
@@ -14,7 +16,7 @@ use Rattle.ldc.specs.Lists.{isSome}
 use Rattle.ldc.specs.Lent.{Lent, lentOf}
 use Rattle.ldc.specs.Request.{Request}
 use Rattle.ldc.specs.Run.{accepted, brokenList, split, roomLimit, ServedAll, acceptedRun, run}
-use Rattle.ldc.proofs.Basics.Cases.{maybe}
+use Rattle.ldc.proofs.Basics.Cases.{cases, maybe}
 use Rattle.ldc.proofs.Serving.Splits.{split-bytes}
 use Rattle.ldc.proofs.Serving.Runs.{run-served}
 use Rattle.serve_list.specs.Ran.{requestsOf}
@@ -83,6 +85,26 @@ module _ {list : List ℕ} {m : Lent} {from : Progress} {answer : List ℕ} {m�
     x .served ∙ ap (λ (k : ℕ). from .served + nextOf list (from .served) k .served) r
         ∙ ap (λ (k : ℕ). k + nextOf list k pieceRoom .served) (b .1),
   )
+
+-- ---- no list is stuck
+
+after-few : (list : List ℕ) (k : ℕ) → servedAfter list k ≤ length (requestsOf list)
+unfolding servedAfter
+after-few list zero = omega arith
+after-few list (suc k) = omega (arith, after-few list k, done-few list (servedAfter list k) pieceRoom)
+
+after-many : (list : List ℕ) (k : ℕ) → k ≤ length (requestsOf list) → k ≤ servedAfter list k
+unfolding servedAfter
+after-many list zero h = omega arith
+after-many list (suc k) h =
+    let before : k ≤ servedAfter list k = after-many list k (omega arith) in
+    cases (ltb (servedAfter list k) (length (requestsOf list)))
+    (λ q. omega (arith, done-some list (servedAfter list k) pieceRoom (lit≤ tt) (ltb-true (servedAfter list k) (length (requestsOf list)) q)))
+    (λ q. omega (arith, ltb-false (servedAfter list k) (length (requestsOf list)) q))
+
+-- With as many pieces as there are requests, all are served.
+pub after-all : (list : List ℕ) → servedAfter list (length (requestsOf list)) ≡ length (requestsOf list)
+after-all list = omega (arith, after-few list (length (requestsOf list)), after-many list (length (requestsOf list)) (omega arith))
 
 -- ---- the end
 

@@ -1,5 +1,5 @@
--- A list served over the program's new store. Its answers are one piece, wherever runs stop; they are made one stretch after the other, and what each
--- stretch is, is settled by how many requests were served before it.
+-- A list served over the program's new store. Its answers are one, wherever runs stop; they are made piece by piece, and each piece is settled by how
+-- many requests were served before it.
 use Prim.Native.Nat.{ℕ, zero, suc, _+_, _*_, _≤_, _<_}
 use mathlib.Core.Path.{_≡_}
 use mathlib.Core.List.{List, [], _∷_}
@@ -56,14 +56,15 @@ sizeOf (r ∷ rs) = requestHeadSize + length (r .body) + sizeOf rs
 unfoldable pub positionOf : List ℕ → ℕ → ℕ
 positionOf list n = sizeOf (take n (requestsOf list))
 
--- So far a list is served: these are as many requests as it says, and memory is that of the store after them.
+-- A list is served so far: so many of its requests; the position is the one behind them, the bytes written are as many as their answers have, and
+-- memory is that of the store after them.
 pub record Reached (list : List ℕ) (m : Lent) (p : Progress) : Type 0 where
   pub counted : p .served ≤ length (requestsOf list)
   pub passed : p .at ≡ positionOf list (p .served)
   pub handed : p .written ≡ length (servedFirst list (p .served) .bytes)
   pub left : m ≡ lentOf (servedFirst list (p .served) .store)
 
--- What the run behind the first requests serves, with so much room for its answers.
+-- What serving goes on to give behind the first requests, with so much room for answers.
 unfoldable pub nextOf : List ℕ → (served room : ℕ) → ServedAll
 nextOf list served room = serveAll room (servedFirst list served .store) (drop served (requestsOf list))
 
@@ -90,8 +91,8 @@ unfoldable pub servedAfter : List ℕ → (pieces : ℕ) → ℕ
 servedAfter list zero = 0
 servedAfter list (suc k) = servedAfter list k + nextOf list (servedAfter list k) pieceRoom .served
 
--- What running a list to its end returns. Refused lists have number 4, no request and no answer. The requests served are those of the pieces made,
--- and the bytes handed on are their answers; unless writing failed these are all, and it can only fail once a piece was made.
+-- What running a list to its end returns. Refused lists have number 4, no request and no answer. The requests served are those of some first pieces,
+-- and the bytes handed on are their answers; unless writing failed these are all, and it fails only behind a piece that was made.
 pub record Told (list : List ℕ) (number served written : ℕ) (failed : Bool) : Type 0 where
   pub numbered : number ≡ cond (isSome (split list)) accepted brokenList
   pub counted : served ≤ length (requestsOf list)

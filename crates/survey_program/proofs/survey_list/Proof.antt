@@ -45,7 +45,7 @@ deliver-requires c κs =
     let words = k .before .before .before .before .before .before .card-of .ensures in
     let follow = rows-follow _ _ _ _ _ (d .1) (ap (λ (w : List ℕ). replicate 32 w) (sym words)) in (
       ap (λ (rows : List (List ℕ)). lent (s .last .0) rows (s .last .1 .1 .1 .0) (s .last .1 .1 .1 .1 .0) (s .last .1 .1 .1 .1 .1 .0)) follow
-          ∙ made-one _ _ _ _ (blank 32768) refl refl (d .0 ∙ sym (make-same _ _ _ refl)) refl,
+          ∙ made-one _ _ _ _ (d .0 ∙ sym (make-same _ _ _ refl)) refl (blank 32768) refl refl,
       follow,
     )
 
