@@ -27,7 +27,7 @@ pub struct Continued {
     pub cards: [Card; PLACES],
 }
 
-// Makes a new store. Refused, by 1 or 2, it changes nothing.
+// Makes a new store. Refused, by 1 or 2, it changes nothing, no working row either.
 pub fn start(
     area: &mut [u8],
     cards: [Card; PLACES],
@@ -51,7 +51,7 @@ pub fn start(
     }
 }
 
-// Runs a list of requests. Refused, it changes nothing of the store; with 5 the working rows become the cards' words.
+// Runs a list of requests. Refused, it changes nothing of the store; with 1, 3 and 4 no working row either, and with 5 they become the cards' words.
 pub fn serve(
     area: &mut [u8],
     cards: [Card; PLACES],
@@ -74,7 +74,8 @@ pub fn serve(
     Continued { ran, cards: mine }
 }
 
-// The same where the working rows are the cards' words already, as `start` and each run leave them: then it says what the run over rows says.
+// The same where the working rows are the cards' words already, as `start` leaves them where it accepts, and each run after it: then it says
+// what the run over rows says.
 pub fn go_on(
     area: &mut [u8],
     cards: [Card; PLACES],

@@ -1,9 +1,9 @@
 // The store over lent memory whose cards are a slice of structs: make, check and run.
 //
 // The store itself works on rows of words. Who calls these functions lends working rows beside the cards, as many; another number of them is
-// refused by 1. Numbers 1 to 4 are found before anything is carried over, so that nothing that is lent changes. Then the cards are carried to the
-// rows (a new store needs no old cards), the proved function works on these, and the rows are carried back where it accepts. With 5 the cards
-// stay, and the rows hold their words.
+// refused by 1. Numbers 1 to 4 are found before anything is carried over: then nothing that is lent changes. Otherwise the rows are working
+// memory. The cards are carried to them (but not for a new store, which needs no old cards), the proved function works on them, and make and run
+// carry them back where they accept. With 5 the cards stay as they were, and the rows hold their words.
 ghost use mathlib.Core.Path.{_≡_};
 ghost use mathlib.Core.Bool.{cond, _&&_};
 ghost use mathlib.Core.List.{List};
@@ -49,7 +49,7 @@ fn make_rows(
     store_make::make(area, rows, lists, head, memory, threshold)
 }
 
-// Makes a new store: 0, or 1 for sizes, or 2 for a threshold outside 1 to 8. Refused, nothing that is lent changes, and no working row either.
+// Makes a new store: 0, or 1 for sizes, or 2 for a threshold outside 1 to 8. Refused, nothing that is lent changes, no working row either.
 pub fn make(
     area: &mut [u8],
     cards: &mut [Card],
