@@ -20,17 +20,18 @@ below i n l = holds (ltb i n) (lt→ltb i n l)
 pub not-below : (n : ℕ) → ltb n n ≡ false
 not-below n = fails (ltb n n) (λ a. lt-irrefl n (ltb→lt n n a))
 
+-- A truth value, from what its opposite came out as.
+pub found-true : (b : Bool) → T (not (not b)) → b ≡ true
+found-true true t = refl
+found-true false t = absurd t
+
+pub found-false : (b : Bool) → T (not b) → b ≡ false
+found-false true t = absurd t
+found-false false t = refl
+
 -- Two numbers that were found the same, or not.
 pub found-same : (a b : ℕ) → T (not (not (eqb a b))) → a ≡ b
-found-same a b t = eqb-true a b (twice (eqb a b) t)
-  where
-    twice : (y : Bool) → T (not (not y)) → y ≡ true
-    twice true _ = refl
-    twice false z = absurd z
+found-same a b t = eqb-true a b (found-true (eqb a b) t)
 
 pub found-other : (a b : ℕ) → T (not (eqb a b)) → a ≡ b → ⊥
-found-other a b t = eqb-false a b (once (eqb a b) t)
-  where
-    once : (y : Bool) → T (not y) → y ≡ false
-    once true z = absurd z
-    once false _ = refl
+found-other a b t = eqb-false a b (found-false (eqb a b) t)

@@ -3,7 +3,7 @@
 -- All that the proof knows of the three functions is that each meets its contract.
 use mathlib.Core.Path.{_≡_, refl, sym, ap, _∙_, subst}
 use Prim.Native.Nat.{ℕ}
-use mathlib.Core.Bool.{Bool, true, false, not, _&&_}
+use mathlib.Core.Bool.{Bool, true, _&&_}
 use mathlib.Core.List.{[], _∷_, List}
 use lib.ListN.{length}
 use lib.Dec.{T, lit<}
@@ -47,6 +47,7 @@ use Rattle.walks.proofs.Pieces.{Row, Head, Mem, RowS, HeadS, MemS}
 use Rattle.walks.proofs.Again.{LentAgain, lends-again, comes-back}
 use Rattle.walks.proofs.Ended.{slice-ended}
 use Rattle.walks.proofs.Branch.{leaves-if}
+use Rattle.walks.proofs.Truth.{found-true, found-false}
 use Rattle.store_cards.specs.Card.{rowsOf}
 use Rattle.store_cards.specs.declared.Card.{Card}
 use Rattle.store_cards.proofs.Words.{rows-length}
@@ -79,15 +80,6 @@ use Rattle.store_structs.proofs.check.Code as code
 
 abbrev stayed : Stays (checks.ended .signature .params) (checks.ended .kept)
 stayed = (stay-none-slice (0 ∷ []) tt (plain (λ _. u8)) yes, (stay-none-slice (1 ∷ []) tt (plain (λ _. R)) yes, (gave-slice (2 ∷ []) tt RowS, (stay-none-slice (3 ∷ []) tt (plain (λ _. u16)) yes, (stay-none-ref (4 ∷ []) tt HeadS yes, (stay-none-ref (5 ∷ []) tt MemS yes, tt))))))
-
--- a truth value, from what its opposite came out as
-found-false : (b : Bool) → T (not b) → b ≡ false
-found-false true t = absurd t
-found-false false t = refl
-
-found-true : (b : Bool) → T (not (not b)) → b ≡ true
-found-true true t = refl
-found-true false t = absurd t
 
 -- the contracts that the proof cites besides `load`'s
 module _ {M : Type 1} (𝓤 : URA M) (H : Heap 𝓤) (A : Atoms 𝓤) (at-mem : Memory → SProp 𝓤) (run : Routine → Fun 𝓤) where
