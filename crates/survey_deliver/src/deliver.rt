@@ -52,25 +52,15 @@ pub fn deliver(
         (r .number) (r .served) (r .written) (r .failed)
         ⌝ }
 {
-    let mut answer = [0u8; ANSWER_BYTES];
+    let mut out = [0u8; ANSWER_BYTES];
     let mut cards = first;
-    let mut progress = Progress {
+    let mut from = Progress {
         served: 0,
         at: 0,
         written: 0,
     };
-    while progress.at < list.len() {
-        let made = piece::next_piece(
-            area,
-            cards,
-            rows,
-            lists,
-            head,
-            memory,
-            list,
-            progress,
-            &mut answer,
-        );
+    while from.at < list.len() {
+        let made = piece::next_piece(area, cards, rows, lists, head, memory, list, from, &mut out);
         let next = made.cards;
         cards = next;
         let reached = made.progress;
@@ -83,7 +73,7 @@ pub fn deliver(
             };
         }
         let n = made.length;
-        if !hand_on(fd, list, progress.written, &answer[..n]) {
+        if !hand_on(fd, list, from.written, &out[..n]) {
             return Delivered {
                 number: results::ACCEPTED,
                 served: reached.served,
@@ -91,12 +81,12 @@ pub fn deliver(
                 failed: true,
             };
         }
-        progress = reached;
+        from = reached;
     }
     Delivered {
         number: results::ACCEPTED,
-        served: progress.served,
-        written: progress.written,
+        served: from.served,
+        written: from.written,
         failed: false,
     }
 }

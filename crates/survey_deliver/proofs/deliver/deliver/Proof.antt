@@ -16,13 +16,13 @@ use Rattle.survey_deliver.proofs.deliver.deliver.Statement.{statement}
 use Rattle.survey_deliver.proofs.deliver.deliver.Tie as tie
 
 abbrev Inv-loop : tie.InvT-loop
-Inv-loop fd area₀ rows₀ lists₀ head₀ memory₀ list answer₀ cards₀ progress₀ area rows lists head memory answer cards progress =
-    (Reached list (lent area rows lists head memory) progress × ((k : ℕ) × (progress .served ≡ servedAfter list k)))
-    × ((length answer ≡ pieceRoom) × ((length area ≡ length area₀) × ((length rows ≡ length rows₀) × ((length lists ≡ length lists₀) × (rows ≡ rowsOf cards)))))
+Inv-loop fd area₀ rows₀ lists₀ head₀ memory₀ list out₀ cards₀ from₀ area rows lists head memory out cards from =
+    (Reached list (lent area rows lists head memory) from × ((k : ℕ) × (from .served ≡ servedAfter list k)))
+    × ((length out ≡ pieceRoom) × ((length area ≡ length area₀) × ((length rows ≡ length rows₀) × ((length lists ≡ length lists₀) × (rows ≡ rowsOf cards)))))
 
 abbrev μ-loop : tie.MeasureT-loop
-μ-loop fd area₀ rows₀ lists₀ head₀ memory₀ list answer₀ cards₀ progress₀ area rows lists head memory answer cards progress =
-    length (requestsOf list) - progress .served
+μ-loop fd area₀ rows₀ lists₀ head₀ memory₀ list out₀ cards₀ from₀ area rows lists head memory out cards from =
+    length (requestsOf list) - from .served
 
 loop-holds : tie.Need-loop-holds Inv-loop μ-loop
 loop-holds c =
@@ -59,7 +59,7 @@ onward r = next-reached (turn r .loop .inv .0 .0) (r .next-piece .ensures .0)
 stop : (r : At) → (k : ℕ) × (r .next-piece .result .progress .served ≡ servedAfter (whole r) k)
 stop r = next-stop (turn r .loop .inv .0 .0) (r .next-piece .ensures .0) (turn r .loop .inv .1 .0) (turn r .loop .inv .0 .1)
 
-more : (r : At) → r .next-piece .result .number ≡ 0 → turn r .loop .progress .served < r .next-piece .result .progress .served
+more : (r : At) → r .next-piece .result .number ≡ 0 → turn r .loop .from .served < r .next-piece .result .progress .served
 more r z = let i = turn r .loop .inv in next-some (i .0 .0) (r .next-piece .ensures .0) (omega (arith, i .1 .0)) z (r .before .before .before .before .before .before .before .if1 .taken)
 
 area-length : (r : At) → length (r .next-piece .last .0) ≡ length (turn r .before .before .before .before .args .area .now)
@@ -83,13 +83,13 @@ same-length-3 c = lists-length (c .before .before .before .before .before .befor
 returns : tie.Need-returns Inv-loop μ-loop
 returns c = let r = c .before .before .before .before .before .before .before .before .before .before in end-refused (onward r) (stop r) (r .next-piece .result .number) (r .next-piece .ensures .0 .numbered) (c .if2 .taken)
 
-array-share-prefix-answer : tie.Need-array-share-prefix-answer Inv-loop μ-loop
-array-share-prefix-answer c =
+array-share-prefix-out : tie.Need-array-share-prefix-out Inv-loop μ-loop
+array-share-prefix-out c =
     let r = c .before .before .before .before .before .before .before .before .before .before in
     omega (arith, next-length (turn r .loop .inv .0 .0) (r .next-piece .ensures .0) (bytes r), r .next-piece .kept .1 .1 .1 .1 .1 .1 .1 .1 .0)
 
 slice-aggregate-hand-on : tie.Need-slice-aggregate-hand-on Inv-loop μ-loop
-slice-aggregate-hand-on c = sym (length-take-le _ _ (array-share-prefix-answer (c .before)))
+slice-aggregate-hand-on c = sym (length-take-le _ _ (array-share-prefix-out (c .before)))
 
 hand-on-requires : tie.Need-hand-on-requires Inv-loop μ-loop
 hand-on-requires c κs = let r = c .before .before .before .before .before .before .before .before .before .before .before in next-piece (turn r .loop .inv .0 .0) (r .next-piece .ensures .0) (bytes r)
@@ -148,7 +148,7 @@ deliver-spec =
     same-length-2
     same-length-3
     returns
-    array-share-prefix-answer
+    array-share-prefix-out
     slice-aggregate-hand-on
     hand-on-requires
     same-length-4
