@@ -82,7 +82,9 @@ tableOf ks = map (λ k. record { key = k; value = some (65 ∷ []) }) ks
 -- Level 1 has the tables 10..20, 30..40 and 50..60 in places 1, 2, 3, and place 0 is live on level 0 with these keys.
 abbrev planted : (threshold : ℕ) → List ℕ → Store
 planted t ks =
-    plantedWith t (tableOf ks ∷ tableOf (10 ∷ 20 ∷ []) ∷ tableOf (30 ∷ 40 ∷ []) ∷ tableOf (50 ∷ 60 ∷ []) ∷ []) (replicate 4 (live []))
+    plantedWith t
+    (tableOf ks ∷ tableOf (10 ∷ 20 ∷ []) ∷ tableOf (30 ∷ 40 ∷ []) ∷ tableOf (50 ∷ 60 ∷ []) ∷ [])
+    (replicate 4 (live []))
     ((0 ∷ []) ∷ (1 ∷ 2 ∷ 3 ∷ []) ∷ [] ∷ [] ∷ [])
 
 -- So many numbers from one on.
@@ -93,7 +95,10 @@ countFrom (suc n) i = i ∷ countFrom n (suc i)
 -- Levels 0 and 1 hold so many tables, in places from 0 up, each with its place for its one key.
 abbrev crowded : ℕ → ℕ → Store
 crowded a b =
-    plantedWith 4 (map (λ p. tableOf (p ∷ [])) (countFrom (a + b) 0)) (replicate (a + b) (live [])) (countFrom a 0 ∷ countFrom b a ∷ [] ∷ [] ∷ [])
+    plantedWith 4
+    (map (λ p. tableOf (p ∷ [])) (countFrom (a + b) 0))
+    (replicate (a + b) (live []))
+    (countFrom a 0 ∷ countFrom b a ∷ [] ∷ [] ∷ [])
 
 -- The level that is too full, and what a tidy replies.
 abbrev relieved : Store → List ℕ

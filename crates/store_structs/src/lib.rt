@@ -76,7 +76,8 @@ pub fn make(
 // Number 1: are so many bytes, cards, working rows and list items those of a store, with as many rows as cards?
 fn fits(area: usize, cards: usize, rows: usize, lists: usize) -> bool
     ensures { λ r. ⌜
-        ((m : Lent) (w : List (List ℕ)) → length (m .area) ≡ area → length (m .cards) ≡ cards → length w ≡ rows → length (m .lists) ≡ lists
+        ((m : Lent) (w : List (List ℕ))
+        → length (m .area) ≡ area → length (m .cards) ≡ cards → length w ≡ rows → length (m .lists) ≡ lists
         → r ≡ asMany w m && sizesGood m)
         ⌝ }
 {
@@ -134,7 +135,8 @@ fn refusal_over(
     list: &[u8],
 ) -> u64
     ensures { λ r. ⌜
-        ((m : Lent) (w : List (List ℕ)) → length (m .area) ≡ area → length (m .cards) ≡ cards → length w ≡ rows → length (m .lists) ≡ lists
+        ((m : Lent) (w : List (List ℕ))
+        → length (m .area) ≡ area → length (m .cards) ≡ cards → length w ≡ rows → length (m .lists) ≡ lists
         → r ≡ earlyOver w m answer (now (list .entry)))
         ⌝ }
 {
