@@ -11,7 +11,8 @@ use Rattle.book.specs.declared.head.Mark.the-variants.{At, Nothing}
 
 abbrev pub headWords : Head → List ℕ
 headWords h =
-    h .threshold ∷ h .cursor ∷ h .flag1 ∷ h .key1 .value ∷ h .flag2 ∷ h .key2 .value
+    h .threshold ∷ h .position .cursor
+    ∷ h .position .flag1 ∷ h .position .key1 .value ∷ h .position .flag2 ∷ h .position .key2 .value
     ∷ h .length0 ∷ h .length1 ∷ h .length2 ∷ h .length3 ∷ []
 
 -- A mark, as the definition has it.

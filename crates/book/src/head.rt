@@ -32,14 +32,19 @@ const LENGTH2: usize = LENGTHS + 2;
 
 const LENGTH3: usize = LENGTHS + 3;
 
-// A mark's flag is 1 if there is a key, 0 if none; what flags are lent is kept as it is.
-pub struct Head {
-    pub threshold: u64,
+// Where the next place is taken and the next table chosen: the cursor, and flag and key of the marks of levels 1 and 2. A mark's flag is 1 if
+// there is a key, 0 if none; what flags are lent is kept as it is.
+pub struct Position {
     pub cursor: usize,
     pub flag1: u64,
     pub key1: Key,
     pub flag2: u64,
     pub key2: Key,
+}
+
+pub struct Head {
+    pub threshold: u64,
+    pub position: Position,
     pub length0: usize,
     pub length1: usize,
     pub length2: usize,
@@ -69,11 +74,13 @@ pub fn read(words: HeadWords) -> Head
 {
     Head {
         threshold: words[THRESHOLD],
-        cursor: words[CURSOR] as usize,
-        flag1: words[FLAG1],
-        key1: Key { value: words[KEY1] },
-        flag2: words[FLAG2],
-        key2: Key { value: words[KEY2] },
+        position: Position {
+            cursor: words[CURSOR] as usize,
+            flag1: words[FLAG1],
+            key1: Key { value: words[KEY1] },
+            flag2: words[FLAG2],
+            key2: Key { value: words[KEY2] },
+        },
         length0: words[LENGTHS] as usize,
         length1: words[LENGTH1] as usize,
         length2: words[LENGTH2] as usize,
@@ -86,13 +93,14 @@ impl Head {
     pub fn write(self, words: &mut HeadWords)
         ensures { λ _. ⌜ now (words .exit) ≡ headWords self ⌝ }
     {
+        let at = self.position;
         *words = [
             self.threshold,
-            self.cursor as u64,
-            self.flag1,
-            self.key1.value,
-            self.flag2,
-            self.key2.value,
+            at.cursor as u64,
+            at.flag1,
+            at.key1.value,
+            at.flag2,
+            at.key2.value,
             self.length0 as u64,
             self.length1 as u64,
             self.length2 as u64,
@@ -142,13 +150,14 @@ impl Head {
     pub fn mark_of(self, level: usize) -> Mark
         ensures { λ r. ⌜ theMark r ≡ markIn (headWords self) level ⌝ }
     {
+        let at = self.position;
         if level == 1 {
-            let key = self.key1;
-            return mark_with(self.flag1, key);
+            let key = at.key1;
+            return mark_with(at.flag1, key);
         }
         if level == 2 {
-            let key = self.key2;
-            return mark_with(self.flag2, key);
+            let key = at.key2;
+            return mark_with(at.flag2, key);
         }
         Mark::Nothing
     }
@@ -158,14 +167,17 @@ impl Head {
         requires { ⌜ level < 3 ⌝ }
         ensures { λ r. ⌜ headWords r ≡ marked level (key .value) (headWords self) ⌝ }
     {
+        let mut at = self.position;
         if level == 1 {
-            self.flag1 = 1;
-            self.key1 = key;
+            at.flag1 = 1;
+            at.key1 = key;
+            self.position = at;
             return self;
         }
         if level == 2 {
-            self.flag2 = 1;
-            self.key2 = key;
+            at.flag2 = 1;
+            at.key2 = key;
+            self.position = at;
             return self;
         }
         self

@@ -9,7 +9,6 @@ ghost use Rattle.book.specs.Place.{freeRows};
 ghost use Rattle.book_edit.specs.Take.{Takes};
 use book::head::Head;
 use book::row::Row;
-use book_places::take::Position;
 use table::limits;
 use table_builder::place;
 
@@ -20,23 +19,15 @@ pub struct Taken {
 }
 
 // Takes the first free place from the cursor on, going round: its card becomes live without links, and the cursor the place after it.
-// Every place is taken here, through the position that is lent for it.
+// Every place is taken here, through the head's position, which is lent for it.
 pub fn take(cards: &mut [Row], mut head: Head) -> Taken
-    requires { ⌜ (head .cursor < length (now cards)) × (1 ≤ freeRows (now cards)) ⌝ }
+    requires { ⌜ (head .position .cursor < length (now cards)) × (1 ≤ freeRows (now cards)) ⌝ }
     ensures { λ r. ⌜ Takes (now (cards .entry)) (headWords head) (now (cards .exit)) (headWords (r .head)) (r .place) ⌝ }
 {
-    let key1 = head.key1;
-    let key2 = head.key2;
-    let from = Position {
-        cursor: head.cursor,
-        flag1: head.flag1,
-        key1,
-        flag2: head.flag2,
-        key2,
-    };
+    let from = head.position;
     let taken = book_places::take::take(cards, from);
     let to = taken.position;
-    head.cursor = to.cursor;
+    head.position = to;
     Taken {
         place: taken.place,
         head,
@@ -47,7 +38,7 @@ pub fn take(cards: &mut [Row], mut head: Head) -> Taken
 pub fn write_table(area: &mut [u8], cards: &mut [Row], head: Head, table: &[u8]) -> Taken
     requires { ⌜
         (length (now area) ≡ length (now cards) * placeSize)
-        × ((length (now table) ≡ placeSize) × ((head .cursor < length (now cards)) × (1 ≤ freeRows (now cards))))
+        × ((length (now table) ≡ placeSize) × ((head .position .cursor < length (now cards)) × (1 ≤ freeRows (now cards))))
         ⌝ }
     ensures { λ r. ⌜
         Takes (now (cards .entry)) (headWords head) (now (cards .exit)) (headWords (r .head)) (r .place)

@@ -8,7 +8,7 @@ use Rattle.ldc.specs.Place.{nextPlace}
 use Rattle.ldc.specs.Layout.{rowOf}
 use Rattle.book.specs.Place.{freeAt}
 use Rattle.book.specs.declared.index.Index.the-variants.{At}
-use Rattle.book_places.specs.declared.take.Position.{Position}
+use Rattle.book.specs.declared.head.Position.{Position}
 
 -- The position with another cursor; the marks stay.
 abbrev pub cursorAt : ℕ → Position → Position

@@ -1,4 +1,4 @@
-// Where the next place is taken: the cursor and the two marks in one struct, lent to the one function that takes a place.
+// Taking a place: the head's position, the cursor and the two marks in one struct, is lent to the one function that takes a place.
 //
 // `take_place` holds a reference to a struct and `take` makes one, so these two are proved by hand; who calls `take` needs no such proof.
 ghost use mathlib.Core.Path.{_≡_};
@@ -12,19 +12,10 @@ ghost use Rattle.book.specs.Place.{freeAt, freeRows};
 ghost use Rattle.book.specs.declared.index.Index.the-variants.{At};
 ghost use Rattle.book_places.specs.Taking.{TakesAt};
 use super::free;
+use book::head::Position;
 use book::index::Index;
 use book::row;
 use book::row::Row;
-use coding::key::Key;
-
-// The cursor, and flag and key of the marks of levels 1 and 2.
-pub struct Position {
-    pub cursor: usize,
-    pub flag1: u64,
-    pub key1: Key,
-    pub flag2: u64,
-    pub key2: Key,
-}
 
 // A place, and the cursor after it.
 pub struct Step {

@@ -25,17 +25,17 @@ array-read-t19 c = search needs
 array-read-t22 : tie.Need-array-read-t22
 array-read-t22 c = search needs
 
-array-read-t26 : tie.Need-array-read-t26
-array-read-t26 c = search needs
+array-read-t27 : tie.Need-array-read-t27
+array-read-t27 c = search needs
 
-array-read-t30 : tie.Need-array-read-t30
-array-read-t30 c = search needs
+array-read-t31 : tie.Need-array-read-t31
+array-read-t31 c = search needs
 
-array-read-t34 : tie.Need-array-read-t34
-array-read-t34 c = search needs
+array-read-t35 : tie.Need-array-read-t35
+array-read-t35 c = search needs
 
-array-read-t38 : tie.Need-array-read-t38
-array-read-t38 c = search needs
+array-read-t39 : tie.Need-array-read-t39
+array-read-t39 c = search needs
 
 returns : tie.Need-returns
 returns c =
@@ -52,8 +52,8 @@ read-spec =
     array-read-t15
     array-read-t19
     array-read-t22
-    array-read-t26
-    array-read-t30
-    array-read-t34
-    array-read-t38
+    array-read-t27
+    array-read-t31
+    array-read-t35
+    array-read-t39
     returns)

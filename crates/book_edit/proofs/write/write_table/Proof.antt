@@ -14,7 +14,7 @@ take-requires c κs = search needs
 below : (c : tie.After-take) → c .take .result .place < length (c .before .before .before .before .args .cards .now)
 below c =
     let b = c .before .before .before .before in
-    found-free (b .args .cards .now) (length (b .args .cards .now)) (b .args .head .cursor) _ (b .pre .1 .1 .0) (c .take .ensures .first) .0
+    found-free (b .args .cards .now) (length (b .args .cards .now)) (b .args .head .position .cursor) _ (b .pre .1 .1 .0) (c .take .ensures .first) .0
 
 mul-write-place : tie.Need-mul-write-place
 mul-write-place c =

@@ -45,10 +45,10 @@ use Rattle.book.specs.Place.{freeRows}
 use Rattle.walks.proofs.Pieces.{Row, RowS}
 use Rattle.walks.proofs.Local.{lies-in, lies-out}
 use Rattle.book_places.specs.Taking.{TakesAt}
-use Rattle.book_places.specs.declared.take.Position.{Position}
+use Rattle.book.specs.declared.head.Position.{Position}
 use Rattle.book_places.specs.declared.take.Advanced.{Advanced}
-use Rattle.book_places.proofs.take.Position as T
-use Rattle.book_places.proofs.take.Position.Laws as T′
+use Rattle.book.proofs.head.Position as T
+use Rattle.book.proofs.head.Position.Laws as T′
 use Rattle.book_places.proofs.take.Advanced as K
 use Rattle.book_places.proofs.take.Advanced.Laws as K′
 use Rattle.book_places.proofs.take.take_place as take-place

@@ -48,10 +48,10 @@ use Rattle.walks.proofs.Pieces.{Row, RowS}
 use Rattle.book.specs.Place.{freeAt, freeRows}
 use Rattle.book.specs.declared.index.Index.the-variants.{At}
 use Rattle.book_places.specs.Taking.{cursorAt}
-use Rattle.book_places.specs.declared.take.Position.{Position}
+use Rattle.book.specs.declared.head.Position.{Position}
 use Rattle.book_places.specs.declared.take.Step.{Step}
-use Rattle.book_places.proofs.take.Position as T
-use Rattle.book_places.proofs.take.Position.Laws as T′
+use Rattle.book.proofs.head.Position as T
+use Rattle.book.proofs.head.Position.Laws as T′
 use Rattle.book_places.proofs.take.Step as S
 use Rattle.book_places.proofs.take.Step.Laws as S′
 use Rattle.book_places.proofs.take.take_from as take-from

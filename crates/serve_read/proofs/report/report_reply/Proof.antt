@@ -46,7 +46,7 @@ cast-t14 c =
     omega (arith, c .before .before .before .before .before .before .before .count-cards .ensures .1 .1, links-few (c .before .before .before .before .before .before .before .before .before .before .args .cards .now) (c .before .before .before .before .before .before .before .before .before .before .pre .0 .linked), c .before .before .before .before .before .before .before .before .before .before .pre .0 .few)
 
 count-requires : tie.Need-count-requires
-count-requires c κs = search needs
+count-requires c κs = c .before .before .before .before .before .before .before .before .before .before .pre .0 .place
 
 cast-t16 : tie.Need-cast-t16
 cast-t16 c =
@@ -63,7 +63,7 @@ slice-aggregate-put-numbers : tie.Need-slice-aggregate-put-numbers
 slice-aggregate-put-numbers c = search needs
 
 put-numbers-requires : tie.Need-put-numbers-requires
-put-numbers-requires c κs = search needs
+put-numbers-requires c κs = omega (arith, c .before .before .before .before .before .before .before .before .before .before .before .before .before .before .before .before .before .pre .1, c .before .before .before .before .write-head .kept .0)
 
 add-result : tie.Need-add-result
 add-result c = search needs

@@ -21,7 +21,7 @@ unfolding markIn
 returns-2 c = rw (c .before .before .if2 .taken) (c .mark-with2 .ensures)
 
 returns-3 : tie.Need-returns-3
-returns-3 c = sym (mark-none _ (c .before .before .args .level) (c .before .if1 .left) (c .if2 .left))
+returns-3 c = sym (mark-none _ (c .before .before .before .args .level) (c .before .if1 .left) (c .if2 .left))
 
 pub mark-of-spec : {M : Type 1} → statement M
 mark-of-spec =

@@ -15,7 +15,7 @@ returns-2 c = rw (c .if2 .taken)
 
 returns-3 : tie.Need-returns-3
 unfolding marked
-returns-3 c = let e : c .before .before .args .level ≡ 0 = omega arith in rw e
+returns-3 c = let e : c .before .before .before .args .level ≡ 0 = omega arith in rw e
 
 pub with-mark-spec : {M : Type 1} → statement M
 with-mark-spec = tie.close (tie.spec returns returns-2 returns-3)
