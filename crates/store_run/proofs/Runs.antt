@@ -2,7 +2,7 @@
 use Prim.Native.Nat.{ℕ, _≤_, _<_}
 use mathlib.Core.Path.{_≡_, refl, sym, _∙_, ap}
 use mathlib.Core.Bool.{true, false, cond, true≢false}
-use mathlib.Core.List.{List, [], _∷_}
+use mathlib.Core.List.{List, []}
 use mathlib.Core.Option.{Option, some, none, Option·getD}
 use native.Mathlib.Omega.{arith}
 use borrow.Author.Tests.{lt-ltb, le-ltb}
@@ -14,12 +14,9 @@ use Rattle.ldc.specs.Request.{Request}
 use Rattle.ldc.specs.Run.{accepted, wrongSizes, shortAnswer, brokenList, unsound, split, roomLimit}
 use Rattle.ldc.specs.Run.{Outcome, serveAll, refusedRun, acceptedRun, runSplit, run, check, LetterOf}
 use Rattle.ldc.proofs.Basics.Cases.{cases}
+use Rattle.ldc.proofs.Basics.ListLaws.{empty-list}
 use Rattle.serve_list.specs.Ran.{ran, requestsOf}
 use Rattle.store_run.specs.Early.{earlyNumber}
-
-is-empty : {A : Type 0} (xs : List A) → isEmpty xs ≡ true → xs ≡ []
-is-empty [] h = refl
-is-empty (x ∷ xs) h = absurd (true≢false (sym h))
 
 split-none : (m : Lent) (o : Option (List Request)) (answer : List ℕ) → isSome o ≡ false → runSplit m o answer ≡ refusedRun brokenList m answer
 split-none m none answer h = refl
@@ -93,7 +90,7 @@ module _ (m : Lent) (list answer : List ℕ) where
     -- A run that is refused all the same is refused by 5.
     pub run-late : (run m list answer .number ≡ accepted → ⊥) → run m list answer ≡ refusedRun unsound m answer
     run-late n =
-        cases (isEmpty (broken m)) (λ b. absurd (n (ap (λ (o : Outcome). o .number) (run-served (is-empty (broken m) b)))))
+        cases (isEmpty (broken m)) (λ b. absurd (n (ap (λ (o : Outcome). o .number) (run-served (empty-list (broken m) b)))))
         (λ b. run-unsound b)
 
 -- A refused run returns and leaves this.
@@ -108,7 +105,7 @@ module _ (m : Lent) (z : sizesGood m ≡ true) (number : ℕ) (e : number ≡ ch
   pub check-sound : number ≡ 0 → broken m ≡ []
   unfolding check
   check-sound n =
-      cases (isEmpty (broken m)) (λ q. is-empty (broken m) q)
+      cases (isEmpty (broken m)) (λ q. empty-list (broken m) q)
       (λ q. let e′ = rw (z, q) at e in absurd (omega arith))
 
   pub check-unsound : (number ≡ 0 → ⊥) → isEmpty (broken m) ≡ false

@@ -11,11 +11,15 @@ use lib.Dec.{eqb}
 use lib.ListN.{drop-of-length-le, length, getD, take, drop, length-append, length-drop, take-append-drop}
 use lib.Seq.{drop-cons, take-at, drop-at, drop-drop, length-take-le}
 use Rattle.table.proofs.Tests.{and-parts, cases}
-use Rattle.ldc.specs.Lists.{all, any, keep, howMany, flat, allFrom}
+use Rattle.ldc.specs.Lists.{all, any, keep, howMany, flat, isEmpty, allFrom}
 
 -- ---- tests of all and of any
 
 module _ {ℓ} {A : Type ℓ} where
+  pub empty-list : (xs : List A) → isEmpty xs ≡ true → xs ≡ []
+  empty-list [] h = refl
+  empty-list (x ∷ xs) h = absurd (true≢false (sym h))
+
   -- What all pass, each member passes.
   pub all-at : (test : A → Bool) (xs : List A) → all test xs ≡ true → {x : A} → List·Memᴰ x xs → test x ≡ true
   all-at test (y ∷ xs) h (List·Memᴰ·head e) = rw e (and-parts (test y) (all test xs) h .0)

@@ -3,7 +3,7 @@
 use Prim.Native.Nat.{ℕ, suc, _≤_, _<_, _^_}
 use mathlib.Core.Path.{_≡_, refl, _∙_, ap, ap₂}
 use mathlib.Core.List.{List, [], _∷_, _++_, map, reverse, reverse-append, append-nil, List·Memᴰ, List·Memᴰ·head, List·Memᴰ·tail}
-use mathlib.Core.Bool.{true, cond}
+use mathlib.Core.Bool.{cond}
 use mathlib.Core.Option.{none}
 use mathlib.Core.Logic.{inr}
 use native.Mathlib.Omega.{arith}
@@ -15,16 +15,13 @@ use Rattle.table.specs.Valid.{Keys}
 use Rattle.ldc.specs.Lists.{flat, isEmpty}
 use Rattle.ldc.specs.Store.{Link, Store, links, table, bytesAt, slice, sources, within, spanEnd}
 use Rattle.ldc.specs.Tidy.{greatest}
-use Rattle.ldc.proofs.Basics.Cases.{cases, clash}
+use Rattle.ldc.proofs.Basics.Cases.{cases}
+use Rattle.ldc.proofs.Basics.ListLaws.{empty-list}
 use Rattle.ldc.proofs.Entries.Finds.{orElse, orElse-assoc, find-append, find-within}
 use Rattle.ldc.proofs.Entries.Keys.{find-above}
 use Rattle.ldc.proofs.Steps.Ranges.{gained, Assigned}
 use Rattle.ldc.proofs.Stores.Spans.{Readable, reads, read-outside}
 use Rattle.ldc.specs.Facts.{Spans}
-
-pub empty-list : {A : Type 0} (xs : List A) → isEmpty xs ≡ true → xs ≡ []
-empty-list [] h = refl
-empty-list (x ∷ xs) h = clash h refl
 
 module _ (s s′ : Store) (same : s′ .places ≡ s .places) (p : ℕ) where
   table-kept : (q : ℕ) → table s′ q ≡ table s q

@@ -15,8 +15,7 @@ use Rattle.ldc.specs.Store.{Store, level, links, table, mark, within}
 use Rattle.ldc.specs.Place.{freePlaces}
 use Rattle.ldc.specs.Tidy.{Slice, idle, refused, moved, linked, merged, mergedTables, mergeStep, Spot, due, dueIn, dueTable, capacity, fuller, fullest, overfull, passed, round, responsible, slicesOf, downStep, tidyStep}
 use Rattle.ldc.proofs.Basics.Cases.{cases, clash, maybe, both-left, both-right}
-use Rattle.ldc.proofs.Steps.LinkReads.{empty-list}
-use Rattle.ldc.proofs.Basics.ListLaws.{all-at, mem-getD}
+use Rattle.ldc.proofs.Basics.ListLaws.{empty-list, all-at, mem-getD}
 use Rattle.ldc.proofs.Steps.Ranges.{reaches}
 use Rattle.ldc.proofs.Stores.Sound.{Sound}
 use Rattle.ldc.specs.Facts.{Merging, Chosen}

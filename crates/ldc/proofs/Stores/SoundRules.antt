@@ -3,7 +3,7 @@
 use Prim.Native.Nat.{ℕ, zero, suc, _≤_, _<_}
 use mathlib.Core.Path.{_≡_, refl, sym, _∙_}
 use mathlib.Core.Bool.{Bool, true, false, cond, _||_, Bool·beq, or-true, true≢false}
-use mathlib.Core.List.{List, [], _∷_, _++_, List·Memᴰ, List·Memᴰ·not-nil}
+use mathlib.Core.List.{[], _++_, List·Memᴰ, List·Memᴰ·not-nil}
 use native.Mathlib.Omega.{arith}
 use borrow.Author.Tests.{leb-true, lt-ltb, ltb-true, ltb-false, eq-eqb, eqb-true, ne-eqb}
 use lib.Dec.{leb, ltb, eqb}
@@ -17,7 +17,7 @@ use Rattle.ldc.specs.Store.{Link, free, Store, size, card, links, linksO
 use Rattle.ldc.specs.Rules.{thresholdGood, ruleA, ruleB, ruleC, ruleE, ruleF, ruleG, timesListed, linkGood, hungOn, allApart, named, spansRise}
 use Rattle.ldc.specs.Layout.{levelCount, mostPlaces, fewestPlaces, linkLimit}
 use Rattle.ldc.proofs.Stores.Sound.{Sound, Whole, TablePlace}
-use Rattle.ldc.proofs.Basics.ListLaws.{all-at, all-of, any-at, getD-mem, below-at, below-of, howMany-mem, howMany-zero}
+use Rattle.ldc.proofs.Basics.ListLaws.{empty-list, all-at, all-of, any-at, getD-mem, below-at, below-of, howMany-mem, howMany-zero}
 
 -- Beyond the last, cards are free.
 pub beyond : (s : Store) (p : ℕ) → size s ≤ p → card s p ≡ free
@@ -37,10 +37,6 @@ same-beq true true h = refl
 same-beq true false h = sym h
 same-beq false true h = h
 same-beq false false h = refl
-
-empty-nil {ℓ} : {A : Type ℓ} (xs : List A) → isEmpty xs ≡ true → xs ≡ []
-empty-nil [] h = refl
-empty-nil (x ∷ xs) h = absurd (true≢false (sym h))
 
 -- Rule A bounds the threshold.
 pub threshold-eight : (s : Store) → ruleA s ≡ true → s .threshold ≤ linkLimit
@@ -126,7 +122,7 @@ module _ (s : Store) where
         (a .0, b .0, b .1)
 
     bare-of : (p : ℕ) → List·Memᴰ p (level s 0) → links s p ≡ []
-    bare-of p m = empty-nil (links s p) (all-at (λ q. isEmpty (links s q)) (level s 0) (parts-E .0) m)
+    bare-of p m = empty-list (links s p) (all-at (λ q. isEmpty (links s q)) (level s 0) (parts-E .0) m)
 
     hung-of : (p : ℕ) (l : Link) → List·Memᴰ l (links s p) → linkGood s l ≡ true
     unfolding links
