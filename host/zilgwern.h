@@ -37,11 +37,16 @@ extern "C" {
 #define ZILGWERN_LEVELS 4          /* levels 0 to 3 */
 #define ZILGWERN_CARD_LINKS 8      /* links that a card has room for; the threshold is at most this */
 #define ZILGWERN_MEMORY_BYTES 1024 /* bytes of the memory table */
-#define ZILGWERN_VALUE_BYTES 48    /* the longest value */
+#define ZILGWERN_VALUE_BYTES 51    /* the longest value */
+#define ZILGWERN_ENTRY_BYTES (12 + ZILGWERN_VALUE_BYTES) /* the longest entry: length (2), kind (2), key (8), value */
 #define ZILGWERN_TABLE_ENTRIES 16  /* the most entries of a table, and of the memory table */
 #define ZILGWERN_SCAN_VALUES 16    /* the most values that one scan gives */
+#define ZILGWERN_REPLY_BYTES (10 + ZILGWERN_SCAN_VALUES * ZILGWERN_ENTRY_BYTES) /* the longest reply, a scan's */
 #define ZILGWERN_LIST_BYTES 65536  /* the longest request list */
 #define ZILGWERN_ANSWER_ROOM 1024  /* bytes that must be left in the answer buffer before a request is served */
+
+ZILGWERN_STATIC_ASSERT(8 + ZILGWERN_TABLE_ENTRIES * ZILGWERN_ENTRY_BYTES <= ZILGWERN_PLACE_BYTES, "a full table fits a place");
+ZILGWERN_STATIC_ASSERT(ZILGWERN_REPLY_BYTES <= ZILGWERN_ANSWER_ROOM, "every reply fits the room that a run wants for it");
 
 /* Bytes of the area of a store, and items of its four level lists together. */
 #define ZILGWERN_AREA_BYTES(places) ((size_t)(places) * ZILGWERN_PLACE_BYTES)
@@ -120,7 +125,7 @@ enum {
 
 /* Kinds of requests. */
 enum {
-    ZILGWERN_PUT = 1,     /* key (8), value (0 to 48) */
+    ZILGWERN_PUT = 1,     /* key (8), value (0 to ZILGWERN_VALUE_BYTES) */
     ZILGWERN_DELETE = 2,  /* key (8) */
     ZILGWERN_LOOK_UP = 3, /* key (8); the reply's body is the value */
     ZILGWERN_SCAN = 4,    /* low key (8), high key (8), both included; count (2), more (2), then so many entries */

@@ -1,11 +1,18 @@
 //! What a store looks like to the bench.
 
 use crate::workload::{Key, Put};
+use reference::limits::{ENTRY_BYTES, LIST_BYTES, TABLE_ENTRIES};
 
-/// Requests of one batch: what fits a list of 65,536 bytes. A put has 60 bytes, its share of a flush and of tidies beside.
-pub const PUTS: usize = 1024;
-pub const LOOK_UPS: usize = 5461;
-pub const SCANS: usize = 3276;
+/// Tidies behind a flush are never more, so that a batch of puts fits a list.
+pub const MOST_TIDIES: usize = 12;
+
+/// Bytes of the puts that fill the memory table, each as long as the longest entry, of the flush behind them and of the tidies.
+const FILLING: usize = TABLE_ENTRIES * ENTRY_BYTES + 4 + MOST_TIDIES * 4;
+
+/// Requests of one batch: what fits a list.
+pub const PUTS: usize = LIST_BYTES / FILLING * TABLE_ENTRIES;
+pub const LOOK_UPS: usize = LIST_BYTES / 12;
+pub const SCANS: usize = LIST_BYTES / 20;
 
 /// The values of one scan.
 pub const SCANNED: usize = 16;

@@ -1,18 +1,17 @@
 //! The two survey stores as engines: request lists over lent memory, and the recorder's policy: put until the memory table holds 16
 //! keys, flush, and tidy as often as the last list needed it.
 
-use crate::engine::{Engine, SeeEntry, SeeValue, SCANNED};
+use crate::engine::{Engine, SeeEntry, SeeValue, MOST_TIDIES};
 use crate::places::Steps;
 use crate::workload::{Key, Put};
 use reference::lent::{Lent, ROW_STATE, STATE_FREE};
-use reference::limits::{ANSWER_ROOM, LIST_BYTES, TABLE_ENTRIES};
+use reference::limits::{ANSWER_ROOM, LIST_BYTES, REPLY_BYTES, TABLE_ENTRIES, VALUE_BYTES};
 
 /// The threshold of all stores here.
 pub const THRESHOLD: u64 = 4;
 
-/// Tidies behind a flush: so many in the first list, and never more, so that 1,024 puts fit a list.
+/// Tidies behind a flush in the first list.
 const FIRST_TIDIES: usize = 4;
-const MOST_TIDIES: usize = 12;
 
 /// Runs a list on lent memory, answers at the front of the buffer: requests served and bytes written. A refused run ends the
 /// bench.
@@ -168,7 +167,7 @@ impl<R: Runner> Engine for Listed<R> {
 
     fn look_up(&mut self, keys: &[Key], see: &mut SeeValue) {
         keys.iter().for_each(|key| self.ask(3, Some(*key), &[]));
-        let mut replies = self.run(54);
+        let mut replies = self.run(6 + VALUE_BYTES);
         while !replies.is_empty() {
             let (whole, rest) = replies.split_at(pair(replies, 0));
             match pair(whole, 4) {
@@ -184,7 +183,7 @@ impl<R: Runner> Engine for Listed<R> {
         for low in from {
             self.ask(4, Some(*low), &Key::MAX.to_le_bytes());
         }
-        let mut replies = self.run(10 + SCANNED * 60);
+        let mut replies = self.run(REPLY_BYTES);
         let mut number = 0;
         while !replies.is_empty() {
             let (whole, rest) = replies.split_at(pair(replies, 0));

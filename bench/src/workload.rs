@@ -1,10 +1,11 @@
 //! Keys and values: random sewer lines and millimetres, each key put once and half of them overwritten; and skewed puts.
 
 use reference::generate::random::Random;
+use reference::limits::VALUE_BYTES;
 use std::collections::{BTreeMap, BTreeSet};
 
 pub type Key = u64;
-pub type Value = [u8; 48];
+pub type Value = [u8; VALUE_BYTES];
 pub type Put = (Key, Value);
 
 /// Lines of a town's sewers, and the length of the longest one in millimetres.
@@ -37,9 +38,9 @@ fn distinct(random: &mut Random, count: usize) -> Vec<Key> {
 
 /// A value that no other put has.
 fn any_value(random: &mut Random) -> Value {
-    let mut value = [0; 48];
+    let mut value = [0; VALUE_BYTES];
     for part in value.chunks_mut(8) {
-        part.copy_from_slice(&random.word().to_le_bytes());
+        part.copy_from_slice(&random.word().to_le_bytes()[..part.len()]);
     }
     value
 }

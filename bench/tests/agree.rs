@@ -7,6 +7,7 @@ use bench::lists::Listed;
 use bench::proved::Proved;
 use bench::rounds::{median, Measure, Plan};
 use bench::workload::{Key, Put, Value, Workload};
+use reference::limits::VALUE_BYTES;
 use std::collections::{BTreeMap, BTreeSet};
 
 /// With keys for all levels of 256 places.
@@ -51,7 +52,7 @@ fn all_stores_agree_at_the_ends_of_the_key_range() {
     let middle: Key = 1 << 63;
     let keys = [0, 1, 255, 256, middle - 1, middle, middle + 1, Key::MAX - 1, Key::MAX];
     let workload = Workload {
-        puts: keys.map(|key| (key, [key as u8 | 1; 48])).to_vec(),
+        puts: keys.map(|key| (key, [key as u8 | 1; VALUE_BYTES])).to_vec(),
         hits: keys.to_vec(),
         misses: vec![2, 257, middle - 2, middle + 2, Key::MAX - 2],
         scans: [keys.to_vec(), vec![2, middle - 2, middle + 2]].concat(),
@@ -122,7 +123,7 @@ impl Engine for Faulty {
         for key in keys {
             let value = self.values.get(key).map(|value| &value[..]);
             match self.wrong {
-                Wrong::FindsWhatIsNotThere => see(value.or(Some(&[0; 48]))),
+                Wrong::FindsWhatIsNotThere => see(value.or(Some(&[0; VALUE_BYTES]))),
                 _ => see(value),
             }
         }
@@ -223,10 +224,11 @@ fn skewed_keys_follow_zipf() {
 
 #[test]
 fn batches_fit_a_list() {
-    // 16 puts of 60 bytes, a flush and twelve tidies of 4 bytes each; look-ups of 12 bytes and scans of 20.
-    let lists = [PUTS / 16 * (16 * 60 + 4 + 12 * 4), LOOK_UPS * 12, SCANS * 20];
+    // 16 of the longest puts, a flush and twelve tidies of 4 bytes each; look-ups of 12 bytes and scans of 20.
+    let sixteen = 16 * (12 + VALUE_BYTES) + 4 + 12 * 4;
+    let lists = [PUTS / 16 * sixteen, LOOK_UPS * 12, SCANS * 20];
     assert!(lists.iter().all(|bytes| *bytes <= 65_536), "{lists:?}");
-    let one_more = [LOOK_UPS * 12 + 12, SCANS * 20 + 20];
+    let one_more = [lists[0] + sixteen, lists[1] + 12, lists[2] + 20];
     assert!(one_more.iter().all(|bytes| *bytes > 65_536), "as many as fit: {one_more:?}");
 }
 

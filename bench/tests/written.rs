@@ -7,6 +7,7 @@ use bench::places::{Steps, Watched, Written};
 use bench::proved::Proved;
 use bench::upper::Upper;
 use bench::workload::{Key, Put, Workload};
+use reference::limits::VALUE_BYTES;
 use reference::rules::check;
 
 fn workloads(keys: usize) -> [Workload; 2] {
@@ -48,7 +49,7 @@ fn lower_level_driven_writes_less() {
 
 /// Sixteen puts of keys that rise by a step.
 fn rising(from: Key, step: Key) -> Vec<Put> {
-    (0..16).map(|number| (from + number * step, [number as u8; 48])).collect()
+    (0..16).map(|number| (from + number * step, [number as u8; VALUE_BYTES])).collect()
 }
 
 #[test]
@@ -81,11 +82,11 @@ fn a_link_writes_no_place_and_a_merge_its_results() {
 
 #[test]
 fn the_memory_table_takes_sixteen_keys_and_not_sixteen_puts() {
-    let puts: Vec<Put> = (0..40).map(|number| (number % 20, [1; 48])).collect();
+    let puts: Vec<Put> = (0..40).map(|number| (number % 20, [1; VALUE_BYTES])).collect();
     // Keys 0 to 15, then 16 to 19 with 0 to 11, then 12 to 19.
     let written = led(&mut Listed::new(Proved, 16), &puts);
     assert_eq!((written.puts, written.flushes), (40, 3));
-    let puts: Vec<Put> = (0..40).map(|number| (number % 16, [1; 48])).collect();
+    let puts: Vec<Put> = (0..40).map(|number| (number % 16, [1; VALUE_BYTES])).collect();
     assert_eq!(led(&mut Listed::new(Proved, 16), &puts).flushes, 1);
 }
 
@@ -94,7 +95,7 @@ fn the_memory_table_takes_sixteen_keys_and_not_sixteen_puts() {
 fn a_table_written_over_an_equal_one_counts() {
     let mut upper = Upper::new(16);
     let mut watched = Watched::new(&mut upper);
-    let same: Vec<Put> = vec![(1, [7; 48])];
+    let same: Vec<Put> = vec![(1, [7; VALUE_BYTES])];
     for _ in 0..40 {
         watched.lead(&same, &mut |_| {});
     }

@@ -3,7 +3,7 @@
 use reference::generate::damage::DAMAGES;
 use reference::generate::random::Random;
 use reference::lent::{Lent, HEAD_LENGTHS, ROW_COUNT, ROW_LINKS};
-use reference::limits::{LEVELS, PLACE_BYTES};
+use reference::limits::{ENTRY_BYTES, LEVELS, PLACE_BYTES, TABLE_HEAD};
 
 /// One way to damage lent memory.
 type Blow = fn(&mut Lent, &mut Random);
@@ -83,7 +83,7 @@ fn flip_in_head(lent: &mut Lent, random: &mut Random) {
 }
 
 fn flip_in_memory(lent: &mut Lent, random: &mut Random) {
-    let reach = if random.once_in(3) { 1024 } else { 60 };
+    let reach = if random.once_in(3) { PLACE_BYTES } else { TABLE_HEAD + ENTRY_BYTES };
     let byte = random.below(reach);
     lent.memory[byte] ^= 1 << random.below(8);
 }

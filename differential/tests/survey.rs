@@ -4,7 +4,7 @@
 use reference::generate::random::Random;
 use reference::generate::requests::{flush, look_up, put, request, scan};
 use reference::generate::vectors::vectors;
-use reference::limits::LIST_BYTES;
+use reference::limits::{LIST_BYTES, VALUE_BYTES};
 use reference::program::{follow, survey};
 use reference::reached::{required_of_requests, Reached};
 use std::fs::File;
@@ -155,7 +155,7 @@ fn input_in_small_pieces() {
 
 /// A list with more answers than a pipe holds: 1,000 scans of 16 values each.
 fn many_answers() -> Vec<u8> {
-    let fill: Vec<Vec<u8>> = (0..16).map(|key| put(key, &[7; 48])).collect();
+    let fill: Vec<Vec<u8>> = (0..16).map(|key| put(key, &[7; VALUE_BYTES])).collect();
     [fill.concat(), scan(0, u64::MAX).repeat(1000)].concat()
 }
 

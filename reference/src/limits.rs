@@ -15,10 +15,13 @@ pub const THRESHOLDS: RangeInclusive<u64> = 1..=8;
 pub const CARD_LINKS: usize = 8;
 
 /// The longest value.
-pub const VALUE_BYTES: usize = 48;
+pub const VALUE_BYTES: usize = 51;
 
 /// Bytes of an entry before its value: length, kind and key.
 pub const ENTRY_HEAD: usize = 12;
+
+/// The longest entry.
+pub const ENTRY_BYTES: usize = ENTRY_HEAD + VALUE_BYTES;
 
 /// Bytes of a table before its first entry.
 pub const TABLE_HEAD: usize = 8;
@@ -28,6 +31,9 @@ pub const TABLE_ENTRIES: usize = 16;
 
 /// The most values one scan gives.
 pub const SCAN_VALUES: usize = 16;
+
+/// The longest reply, a scan's: length, kind and result, count and more, and as many entries as it gives, all the longest.
+pub const REPLY_BYTES: usize = 6 + 4 + SCAN_VALUES * ENTRY_BYTES;
 
 /// Levels 0 to 3.
 pub const LEVELS: usize = 4;

@@ -1,6 +1,8 @@
 //! Named counters of what a test run reached; a run that missed one of them has shown too little.
 
 use crate::judge::{Deed, Followed};
+use crate::limits::{REPLY_BYTES, VALUE_BYTES};
+use crate::slip::OLD_VALUE_BYTES;
 use std::collections::BTreeMap;
 use std::fmt;
 
@@ -69,6 +71,14 @@ impl Reached {
                 [255, 255, 255, 255, 255, 255, 255, 255] => self.count("key 2^64 - 1 put"),
                 _ => {}
             }
+            match served.body.len() - 8 {
+                VALUE_BYTES => self.count("longest value put"),
+                length if length > OLD_VALUE_BYTES => self.count("value put beyond the old limit"),
+                _ => {}
+            }
+        }
+        if (served.kind, result, served.body.len()) == (1, 17, 8 + VALUE_BYTES + 1) {
+            self.count("put one byte too long");
         }
         if let Some(deed) = followed.deed {
             self.follow_deed(deed);
@@ -76,6 +86,9 @@ impl Reached {
     }
 
     fn follow_scan(&mut self, reply: &[u8]) {
+        if reply.len() == REPLY_BYTES {
+            self.count("longest reply");
+        }
         match (reply[6], reply[8]) {
             (16, 1) => self.count("scan of 16 with more"),
             (16, _) => self.count("scan of exactly 16"),
@@ -147,6 +160,10 @@ pub fn required_of_requests() -> Vec<String> {
         "key 2^64 - 1 put",
         "scan of 16 with more",
         "scan of exactly 16",
+        "longest value put",
+        "value put beyond the old limit",
+        "put one byte too long",
+        "longest reply",
         "links on several tables",
         "merge without results",
         "merge into several tables",

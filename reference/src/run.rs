@@ -1,11 +1,11 @@
 //! Making a store, running a list of requests on it, and serving one request.
 
 use crate::lent::Lent;
-use crate::limits::{ANSWER_ROOM, TABLE_ENTRIES, THRESHOLDS};
+use crate::limits::{ANSWER_ROOM, ENTRY_HEAD, SCAN_VALUES, TABLE_ENTRIES, THRESHOLDS};
 use crate::request::{read, split, Command, Reply, Request};
-use crate::rules::Broken;
-use crate::slip::Slip;
-use crate::store::{new_store, Store};
+use crate::rules::{Broken, Rule};
+use crate::slip::{Slip, OLD_VALUE_BYTES};
+use crate::store::{new_store, Place, Store};
 use crate::table::{push_entry, Entry, Key};
 use crate::tidy::Step;
 
@@ -59,6 +59,9 @@ pub fn run_with_slip(lent: &mut Lent, list: &[u8], room: usize, slip: Option<Sli
         Err(verdict) => return Outcome::refused(verdict.number, verdict.broken),
     };
     store.slip = slip;
+    if store.slips(Slip::LongEntryUnsound) && !store.broken_by_old_limit().is_empty() {
+        return Outcome::refused(5, store.broken_by_old_limit());
+    }
     let (served, answers) = store.serve_all(&requests, room);
     *lent = store.encode();
     Outcome { number: 0, broken: Broken::new(), served, answers }
@@ -76,6 +79,18 @@ impl Store {
             self.serve(request).write(request.kind, &mut answers);
         }
         (requests.len(), answers)
+    }
+
+    /// Rules C and D with the old limit of a value.
+    fn broken_by_old_limit(&self) -> Broken {
+        let is_long = |entry: &Entry| entry.value().is_some_and(|it| it.len() > OLD_VALUE_BYTES);
+        let in_place = |place: &Place| match place {
+            Place::Free => false,
+            Place::Live { table, .. } | Place::Frozen { table } => table.values().any(is_long),
+        };
+        let c = self.places.iter().any(in_place).then_some(Rule::C);
+        let d = self.memory.values().any(is_long).then_some(Rule::D);
+        c.into_iter().chain(d).collect()
     }
 
     /// Serves one request.
@@ -102,6 +117,9 @@ impl Store {
     }
 
     fn put(&mut self, key: Key, value: &[u8]) -> u16 {
+        if self.slips(Slip::LongPutRefused) && value.len() > OLD_VALUE_BYTES {
+            return 17;
+        }
         let known = match self.slips(Slip::NewKeyJudgedByMap) {
             true => self.look_up(key).is_some(),
             false => self.memory.contains_key(&key),
@@ -126,7 +144,15 @@ impl Store {
     }
 
     fn scan_reply(&self, low: Key, high: Key) -> Reply {
-        let scanned = self.scan(low, high);
+        let mut scanned = self.scan(low, high);
+        if self.slips(Slip::ScanEndsAtOldLength) {
+            let bytes = |values: &[(Key, Vec<u8>)]| -> usize {
+                values.iter().map(|(_, value)| ENTRY_HEAD + value.len()).sum()
+            };
+            while bytes(&scanned.values) > SCAN_VALUES * (ENTRY_HEAD + OLD_VALUE_BYTES) {
+                scanned.values.pop();
+            }
+        }
         let mut body = (scanned.values.len() as u16).to_le_bytes().to_vec();
         body.extend(u16::from(scanned.more).to_le_bytes());
         for (key, value) in &scanned.values {

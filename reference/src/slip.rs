@@ -16,6 +16,9 @@ macro_rules! slips {
     };
 }
 
+/// The longest value before note 1, by which the slips of that note still go.
+pub const OLD_VALUE_BYTES: usize = 48;
+
 slips! {
     // The five that the order names.
     /// A newer level 0 table is linked before an older one.
@@ -126,4 +129,12 @@ slips! {
     // Run.
     /// A run stops with exactly 1,024 bytes left.
     StopWithRoomLeft,
+
+    // Longer values (note 1), each with the old limit left in one part.
+    /// A put of a value longer than the old limit is refused with 17.
+    LongPutRefused,
+    /// Rules C and D take no entry longer than the old limit.
+    LongEntryUnsound,
+    /// A scan ends where its reply would be longer than it could be by the old limit.
+    ScanEndsAtOldLength,
 }

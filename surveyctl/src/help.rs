@@ -1,5 +1,7 @@
 //! The help texts: one for all, one for each command.
 
+use zilgwern::VALUE_BYTES;
+
 pub const GREETING: &str = "\
 The van's survey store. `help` lists the commands, `quit` ends.
 ";
@@ -47,7 +49,7 @@ KEY is a line and metres with a point (12 3.450), a whole number
 RANGE is nothing (all keys), KEY KEY, LINE METRES METRES (12 3.000 4.000), or
     `line LINE`; both ends are included.
 VALUE is text to the end of the line, text between double quotes, or
-    hex:DIGITS; at most 48 bytes.
+    hex:DIGITS; at most {VALUE_BYTES} bytes.
 
 Exit status: 0 done, 1 `get` found no value, 2 words not understood, 3 refused
 by the store (the message says the number), 4 a file or the output can't be
@@ -60,9 +62,9 @@ const COMMANDS: [(&str, &str); 18] = [
         "\
 put KEY VALUE
 
-Puts a value of at most 48 bytes under a key, in place of an earlier one.
-Refused by 18 where the memory table holds 16 keys and this is a new one:
-`flush` first.
+Puts a value of at most {VALUE_BYTES} bytes under a key, in place of an earlier one.
+A longer one is refused by 17; by 18, where the memory table holds 16 keys and
+this is a new one: `flush` first.
 
 A word with a point behind a whole number is taken for metres. Put double
 quotes around a value that begins with a number or is empty; in a shell, single
@@ -249,7 +251,7 @@ Ends the prompt or the script; so does `exit`.
 /// The text for a command, or for all.
 pub fn text(topic: &str) -> Option<String> {
     let found = COMMANDS.iter().find(|(name, _)| *name == topic);
-    found.map(|(_, text)| text.to_string())
+    found.map(|(_, text)| filled(text))
 }
 
 /// The same at the prompt, where options have no place.
@@ -262,5 +264,10 @@ pub fn in_prompt(topic: &str) -> Option<String> {
     let more =
         "  help [COMMAND]       this text, or more on a command\n  quit                 the end\n";
     let forms = &ALL[ALL.find("\nKEY is")?..ALL.find("\nExit status")?];
-    Some(format!("{commands}{more}{forms}"))
+    Some(filled(&format!("{commands}{more}{forms}")))
+}
+
+/// A text with the limit that it names as a number.
+fn filled(text: &str) -> String {
+    text.replace("{VALUE_BYTES}", &VALUE_BYTES.to_string())
 }

@@ -3,6 +3,7 @@
 mod common;
 
 use common::{Came, Folder};
+use zilgwern::VALUE_BYTES;
 
 /// A folder with a store of 16 places in a file.
 fn with_store(name: &str) -> Folder {
@@ -65,8 +66,11 @@ fn refusals_have_status_3_and_their_number() {
     fails(&folder, &["--threshold", "9", "report"], 3, "refused, 2: threshold outside 1 to 8");
     fails(&folder, &["--store", "t", "--places", "4097", "new"], 3, "refused, 1: ");
     assert!(!folder.path("t").exists());
-    let long = "x".repeat(49);
-    fails(&folder, &["--store", "s", "put", "5", &long], 3, "refused, 17: ");
+    let long = "x".repeat(VALUE_BYTES + 1);
+    let words = format!("refused, 17: the value has more than {VALUE_BYTES} bytes");
+    fails(&folder, &["--store", "s", "put", "5", &long], 3, &words);
+    assert_eq!(folder.done(&["--store", "s", "put", "5", &long[1..]]), "done\n");
+    assert_eq!(folder.done(&["--store", "s", "get", "5"]), format!("{}\n", &long[1..]));
     for key in 0..16 {
         assert_eq!(folder.done(&["--store", "s", "put", &key.to_string(), "v"]), "done\n");
     }
@@ -179,7 +183,8 @@ fn a_scan_goes_beyond_sixteen_values() {
 #[test]
 fn who_stops_reading_gets_no_complaint() {
     let folder = with_store("pipe");
-    let lines: String = (0..16).map(|key| format!("put {key} {}\n", "v".repeat(48))).collect();
+    let lines: String =
+        (0..16).map(|key| format!("put {key} {}\n", "v".repeat(VALUE_BYTES))).collect();
     folder.call_with(&["-s", "s", "script"], lines.as_bytes());
     let scans = "scan\n".repeat(500);
     folder.write("scans", scans);

@@ -1,7 +1,7 @@
 //! Keys and values in words: what is printed is read back as it was, and what makes no sense is not understood.
 
 use surveyctl::{key_words, value_words, Command};
-use zilgwern::{Key, Request};
+use zilgwern::{Key, Request, VALUE_BYTES};
 
 /// Numbers that differ enough, from a seed.
 fn numbers(mut seed: u64) -> impl FnMut() -> u64 {
@@ -53,7 +53,7 @@ fn what_is_printed_is_read_back() {
     }
     let mut next = numbers(1);
     for _ in 0..20_000 {
-        let (key, length) = (Key(next() >> (next() % 64)), next() as usize % 49);
+        let (key, length) = (Key(next() >> (next() % 64)), next() as usize % (VALUE_BYTES + 1));
         // Few different bytes, so that quotes, spaces, points and digits meet.
         let signs = b"3.4 \"\\hex:a\n\xc3\xa4-,+";
         let value: Vec<u8> = (0..length).map(|_| signs[next() as usize % signs.len()]).collect();

@@ -119,8 +119,9 @@ impl Engine for LevelDb {
             (self.call.leveldb_writebatch_clear)(self.batch);
             for (key, value) in batch {
                 let key = bytes_of(*key);
-                let (key, value) = (key.as_ptr() as *const c_char, value.as_ptr() as *const c_char);
-                (self.call.leveldb_writebatch_put)(self.batch, key, 8, value, 48);
+                let (start, data) =
+                    (key.as_ptr() as *const c_char, value.as_ptr() as *const c_char);
+                (self.call.leveldb_writebatch_put)(self.batch, start, 8, data, value.len());
             }
             (self.call.leveldb_write)(self.database, self.writing, self.batch, &mut error);
         }

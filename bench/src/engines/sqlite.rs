@@ -154,10 +154,10 @@ impl Engine for Sqlite {
         self.execute("BEGIN");
         for (key, value) in batch {
             self.bind(self.put, *key);
-            let data = value.as_ptr() as *const c_void;
+            let (data, length) = (value.as_ptr() as *const c_void, value.len() as c_int);
             // SAFETY: the value stays where it is until the statement is reset.
             let status =
-                unsafe { (self.call.sqlite3_bind_blob)(self.put, 2, data, 48, null_mut()) };
+                unsafe { (self.call.sqlite3_bind_blob)(self.put, 2, data, length, null_mut()) };
             self.good("a value", status);
             self.row(self.put);
             self.reset(self.put);

@@ -1,9 +1,9 @@
--- The numbers that bound the formats (document 01, "Lent memory"), each said once.
+-- The numbers that bound the formats (document 01, "Lent memory"; document 02, note 1), each said once.
 use Prim.Native.Nat.{ℕ, _+_}
 
 -- a value has at most so many bytes; nothing else says this number, or one that follows from it
 abbrev pub valueLimit : ℕ
-valueLimit = 48
+valueLimit = 51
 
 -- the bytes of an entry before its value: length, kind, key
 abbrev pub entryHead : ℕ

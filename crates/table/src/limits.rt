@@ -4,7 +4,7 @@
 pub const ENTRY_HEAD: usize = 12;
 
 // A value has at most so many bytes.
-pub const VALUE_LIMIT: usize = 48;
+pub const VALUE_LIMIT: usize = 51;
 
 // An entry has at most so many bytes.
 pub const ENTRY_LIMIT: usize = ENTRY_HEAD + VALUE_LIMIT;

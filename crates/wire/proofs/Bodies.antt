@@ -1,15 +1,16 @@
 -- Bodies of requests: which lengths are good, kind by kind.
-use Prim.Native.Nat.{ℕ, _≤_}
+use Prim.Native.Nat.{ℕ, _+_, _≤_}
 use mathlib.Core.Path.{_≡_, refl}
 use mathlib.Core.Bool.{true, cond, _&&_}
 use native.Mathlib.Omega.{arith}
 use borrow.Author.Tests.{le-leb, lt-leb, ne-eqb, eqb-true, eqb-false}
 use lib.Dec.{leb, eqb}
-use Rattle.ldc.specs.Request.{known, bodyGood}
+use Rattle.table.specs.Limits.{valueLimit}
+use Rattle.ldc.specs.Request.{known, bodyGood, keySize}
 use Rattle.ldc.proofs.Basics.Cases.{cases}
 
 module _ (len : ℕ) where
-  pub good-1 : (leb 8 len && leb len 56) ≡ cond (known 1) (bodyGood 1 len) true
+  pub good-1 : (leb keySize len && leb len (keySize + valueLimit)) ≡ cond (known 1) (bodyGood 1 len) true
   unfolding known bodyGood
   good-1 = refl
 

@@ -4,7 +4,7 @@
 
 use differential::run_in_place;
 use reference::lent::Lent;
-use reference::limits::PLACE_BYTES;
+use reference::limits::{PLACE_BYTES, VALUE_BYTES};
 use reference::store::new_store;
 use reference::table::{Entry, Key};
 use std::time::Instant;
@@ -63,9 +63,11 @@ fn least_time(store: &Lent, list: &[u8]) -> f64 {
 
 fn main() {
     let list = rounds();
-    println!("places  untouched tables  value bytes  a round of 16 puts, flush, {TIDIES} tidies (us)");
+    println!(
+        "places  untouched tables  value bytes  a round of 16 puts, flush, {TIDIES} tidies (us)"
+    );
     for places in [256, 4096] {
-        for (tables, value) in [(0, 0), (places / 2, 0), (places / 2, 48)] {
+        for (tables, value) in [(0, 0), (places / 2, 0), (places / 2, VALUE_BYTES)] {
             let store = far_tables(places, tables, value);
             let checked = least_time(&store, &[]);
             let round = (least_time(&store, &list) - checked) / ROUNDS as f64;

@@ -1,5 +1,5 @@
 //! A small client of the proved store for tests by name: requests to bytes, replies from bytes, and stores put together by
-//! hand. Nothing here comes from the second implementation but the container of the lent memory.
+//! hand. Nothing here comes from the second implementation but the container of the lent memory; the tests take its limits.
 
 use differential::{check, make, run, Outcome};
 use reference::lent::Lent;
@@ -13,6 +13,8 @@ const UNTOUCHED: u8 = 0xEE;
 #[derive(Clone, Debug)]
 pub enum Ask {
     Put(u64, &'static str),
+    /// A put of so many letters v.
+    PutLetters(u64, usize),
     Delete(u64),
     LookUp(u64),
     Scan(u64, u64),
@@ -43,7 +45,7 @@ pub enum Reply {
 impl Ask {
     fn kind(&self) -> u16 {
         match self {
-            Ask::Put(..) => 1,
+            Ask::Put(..) | Ask::PutLetters(..) => 1,
             Ask::Delete(_) => 2,
             Ask::LookUp(_) => 3,
             Ask::Scan(..) => 4,
@@ -57,6 +59,9 @@ impl Ask {
     pub fn bytes(&self) -> Vec<u8> {
         let body = match self {
             Ask::Put(key, value) => [&key.to_le_bytes()[..], value.as_bytes()].concat(),
+            Ask::PutLetters(key, length) => {
+                [&key.to_le_bytes()[..], letters(*length).as_bytes()].concat()
+            }
             Ask::Delete(key) | Ask::LookUp(key) => key.to_le_bytes().to_vec(),
             Ask::Scan(low, high) => [low.to_le_bytes(), high.to_le_bytes()].concat(),
             Ask::Flush | Ask::Tidy | Ask::Report => Vec::new(),
@@ -65,6 +70,11 @@ impl Ask {
         let length = 4 + body.len() as u16;
         [&length.to_le_bytes()[..], &self.kind().to_le_bytes(), &body].concat()
     }
+}
+
+/// A value of so many bytes.
+pub fn letters(length: usize) -> String {
+    "v".repeat(length)
 }
 
 /// The bytes of a list.

@@ -3,6 +3,7 @@
 mod choices;
 mod client;
 mod examples;
+mod longer_values;
 mod reading;
 mod refusals;
 mod steps;

@@ -1,6 +1,10 @@
 //! Refused requests and runs, runs that stop, and the empty list.
 
 use crate::client::{list, Ask, Client, Reply};
+use reference::limits::VALUE_BYTES;
+
+/// The longest body of a put.
+const PUT_BODY: usize = 8 + VALUE_BYTES;
 
 #[test]
 fn low_above_high_is_19() {
@@ -56,7 +60,7 @@ fn unknown_kinds_are_16_whatever_the_body() {
 fn wrong_body_lengths_are_17() {
     let mut store = Client::new(16, 4);
     let wrong: [(u16, &[usize]); 7] = [
-        (1, &[0, 7, 57, 58, 300]),
+        (1, &[0, 7, PUT_BODY + 1, PUT_BODY + 2, 300]),
         (2, &[0, 7, 9, 16]),
         (3, &[0, 7, 9, 16]),
         (4, &[0, 8, 15, 17, 24]),
@@ -74,7 +78,7 @@ fn wrong_body_lengths_are_17() {
         }
     }
     // The shortest and the longest put are good.
-    assert_eq!(store.ask(&[Ask::Odd(1, 8), Ask::Odd(1, 56)]), [Reply::Done, Reply::Done]);
+    assert_eq!(store.ask(&[Ask::Odd(1, 8), Ask::Odd(1, PUT_BODY)]), [Reply::Done, Reply::Done]);
 }
 
 #[test]

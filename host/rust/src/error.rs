@@ -1,5 +1,6 @@
 //! What can be refused, in words and by the order's numbers.
 
+use crate::VALUE_BYTES;
 use std::fmt;
 
 /// A rule of a sound store.
@@ -188,16 +189,16 @@ impl fmt::Display for Refusal {
 pub enum ListError {
     /// The list would have more than 65,536 bytes.
     Full,
-    /// The value has more than 48 bytes.
+    /// The value has more than [`VALUE_BYTES`].
     ValueTooLong,
 }
 
 impl fmt::Display for ListError {
     fn fmt(&self, out: &mut fmt::Formatter) -> fmt::Result {
-        out.write_str(match self {
-            ListError::Full => "the list would have more than 65,536 bytes",
-            ListError::ValueTooLong => "the value has more than 48 bytes",
-        })
+        match self {
+            ListError::Full => out.write_str("the list would have more than 65,536 bytes"),
+            ListError::ValueTooLong => write!(out, "the value has more than {VALUE_BYTES} bytes"),
+        }
     }
 }
 

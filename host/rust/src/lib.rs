@@ -66,10 +66,16 @@ pub use view::{Entry, Link, Table, View};
 pub const PLACES: std::ops::RangeInclusive<usize> = 16..=4096;
 
 /// The longest value.
-pub const VALUE_BYTES: usize = 48;
+pub const VALUE_BYTES: usize = 51;
+
+/// The longest entry: length, kind, key and value.
+pub const ENTRY_BYTES: usize = 12 + VALUE_BYTES;
 
 /// The most values that one scan gives.
 pub const SCAN_VALUES: usize = 16;
+
+/// The longest reply, that of a scan of so many of the longest entries.
+pub const REPLY_BYTES: usize = 6 + 4 + SCAN_VALUES * ENTRY_BYTES;
 
 /// The longest request list.
 pub const LIST_BYTES: usize = 65_536;

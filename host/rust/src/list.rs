@@ -1,16 +1,17 @@
 //! Building request lists that are never broken.
 
-use crate::{Key, ListError, Request, LIST_BYTES, VALUE_BYTES};
+use crate::request::PUT_BODY;
+use crate::{Key, ListError, Request, LIST_BYTES};
 
 /// A list of requests. What is in it can always be split, and no request is refused for its kind or its length.
 ///
 /// ```
-/// use zilgwern::{List, ListError};
+/// use zilgwern::{List, ListError, VALUE_BYTES};
 ///
 /// let mut list = List::new();
-/// assert_eq!(list.put(1, &[0; 49]).err(), Some(ListError::ValueTooLong));
-/// list.put(1, &[0; 48])?.tidy()?;
-/// assert_eq!((list.len(), list.as_bytes().len()), (2, 64));
+/// assert_eq!(list.put(1, &[0; VALUE_BYTES + 1]).err(), Some(ListError::ValueTooLong));
+/// list.put(1, &[0; VALUE_BYTES])?.tidy()?;
+/// assert_eq!((list.len(), list.as_bytes().len()), (2, 12 + VALUE_BYTES + 4));
 /// # Ok::<(), ListError>(())
 /// ```
 #[derive(Clone, Default, PartialEq, Eq, Debug)]
@@ -49,7 +50,7 @@ impl List {
     /// Adds a request unless its value or the list would be too long; then the list stays as it was.
     pub fn add(&mut self, request: &Request) -> Result<&mut List, ListError> {
         let body = request.body();
-        if body.len() > 8 + VALUE_BYTES && matches!(request, Request::Put(..)) {
+        if body.len() > PUT_BODY && matches!(request, Request::Put(..)) {
             return Err(ListError::ValueTooLong);
         }
         let length = 4 + body.len();
@@ -64,7 +65,7 @@ impl List {
         Ok(self)
     }
 
-    /// Adds a put of a value of at most 48 bytes.
+    /// Adds a put of a value of at most [`VALUE_BYTES`](crate::VALUE_BYTES).
     pub fn put(&mut self, key: impl Into<Key>, value: &[u8]) -> Result<&mut List, ListError> {
         self.add(&Request::Put(key.into(), value.to_vec()))
     }

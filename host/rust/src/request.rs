@@ -1,12 +1,15 @@
 //! Requests as types, and reading them back out of a list's bytes.
 
 use crate::bytes::{pair, take_whole, word};
-use crate::{Key, Refusal, Refused, LIST_BYTES, SCAN_VALUES, VALUE_BYTES};
+use crate::{Key, Refusal, Refused, LIST_BYTES, REPLY_BYTES, VALUE_BYTES};
+
+/// The longest body of a put: a key and the longest value.
+pub(crate) const PUT_BODY: usize = 8 + VALUE_BYTES;
 
 /// A request that is well formed but for the length of a put's value, which [`List`](crate::List) looks at.
 #[derive(Clone, PartialEq, Eq, Debug)]
 pub enum Request {
-    /// The value, of at most 48 bytes, goes under the key.
+    /// The value, of at most [`VALUE_BYTES`], goes under the key.
     Put(Key, Vec<u8>),
     /// What is under the key goes.
     Delete(Key),
@@ -50,7 +53,7 @@ impl Request {
         6 + match self {
             Request::Put(..) | Request::Delete(_) | Request::Flush => 0,
             Request::LookUp(_) => VALUE_BYTES,
-            Request::Scan(..) => 4 + SCAN_VALUES * (12 + VALUE_BYTES),
+            Request::Scan(..) => REPLY_BYTES - 6,
             Request::Tidy => 4,
             Request::Report => 16,
         }
@@ -60,7 +63,7 @@ impl Request {
     fn of(kind: u16, body: &[u8]) -> Result<Request, Refusal> {
         let key = || Key(word(body, 0));
         Ok(match (kind, body.len()) {
-            (1, 8..=56) => Request::Put(key(), body[8..].to_vec()),
+            (1, 8..=PUT_BODY) => Request::Put(key(), body[8..].to_vec()),
             (2, 8) => Request::Delete(key()),
             (3, 8) => Request::LookUp(key()),
             (4, 16) => Request::Scan(key(), Key(word(body, 8))),

@@ -127,7 +127,7 @@ impl<'a> Store<'a> {
         }
     }
 
-    /// Puts a value of at most 48 bytes under a key.
+    /// Puts a value of at most [`VALUE_BYTES`](crate::VALUE_BYTES) under a key.
     pub fn put(&mut self, key: impl Into<Key>, value: &[u8]) -> Result<(), Error> {
         self.one(|list| list.put(key, value)).map(|_| ())
     }

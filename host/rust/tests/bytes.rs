@@ -8,7 +8,10 @@ use zilgwern::*;
 fn some_request(random: &mut Random) -> Request {
     let key = Key(random.below(1 << 31) << random.below(33));
     match random.below(7) {
-        0 => Request::Put(key, vec![random.below(256) as u8; random.below(49) as usize]),
+        0 => Request::Put(
+            key,
+            vec![random.below(256) as u8; random.below(VALUE_BYTES as u64 + 1) as usize],
+        ),
         1 => Request::Delete(key),
         2 => Request::LookUp(key),
         3 => Request::Scan(key, Key::GREATEST),
@@ -36,7 +39,7 @@ fn a_list_that_is_refused_a_request_stays_as_it_was() {
     let mut list = List::new();
     list.flush().unwrap();
     let before = list.clone();
-    assert_eq!(list.put(1, &[0; 49]).err(), Some(ListError::ValueTooLong));
+    assert_eq!(list.put(1, &[0; VALUE_BYTES + 1]).err(), Some(ListError::ValueTooLong));
     // So long that its length would not fit two bytes.
     assert_eq!(list.put(1, &[0; 70_000]).err(), Some(ListError::ValueTooLong));
     assert_eq!(list, before);
@@ -128,10 +131,10 @@ fn bytes_that_are_no_answers_are_told_so() {
         &[10, 0, 4, 0, 0, 0, 1, 0, 0, 0],
         &[10, 0, 4, 0, 0, 0, 0, 0, 2, 0],
         &[10, 0, 6, 0, 0, 0, 4, 0, 0, 0],
-        // A page that is not full and says that there is more; keys that do not rise; a value of 49 bytes.
+        // A page that is not full and says that there is more; keys that do not rise; a value that is too long.
         &[10, 0, 4, 0, 0, 0, 0, 0, 1, 0],
         &page(&[(7, 0), (7, 0)]),
-        &page(&[(7, 49)]),
+        &page(&[(7, VALUE_BYTES + 1)]),
         &page(&std::array::from_fn::<_, 17, _>(|key| (key as u8, 0))),
         // Steps on levels where there are none.
         &[10, 0, 6, 0, 0, 0, 1, 0, 3, 0],
@@ -144,7 +147,7 @@ fn bytes_that_are_no_answers_are_told_so() {
         let mut rest = bytes;
         assert_eq!((Reply::take(&mut rest), rest), (None, bytes));
     }
-    for good in [page(&[]), page(&[(7, 0), (8, 48)]), vec![6, 0, 99, 0, 16, 0]] {
+    for good in [page(&[]), page(&[(7, 0), (8, VALUE_BYTES)]), vec![6, 0, 99, 0, 16, 0]] {
         assert!(Reply::take(&mut &good[..]).is_some(), "{good:?}");
     }
 }

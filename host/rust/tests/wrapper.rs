@@ -21,7 +21,7 @@ fn a_map_and_the_store_stay_alike() {
     let (mut full, mut steps) = (0, 0);
     for round in 0..2000 {
         let key = Key(random.below(200));
-        let value = vec![round as u8; random.below(49) as usize];
+        let value = vec![round as u8; random.below(VALUE_BYTES as u64 + 1) as usize];
         let done = match random.below(4) {
             0 => store.delete(key).map(|()| map.remove(&key)),
             _ => store.put(key, &value).map(|()| map.insert(key, value)),
@@ -65,7 +65,7 @@ fn long_lists_are_run_to_their_end() {
     let mut store = Store::owned(16, 4).unwrap();
     let mut list = List::new();
     for key in 0..16u64 {
-        list.put(key, &[b'v'; 48]).unwrap();
+        list.put(key, &[b'v'; VALUE_BYTES]).unwrap();
     }
     while list.scan(0, 15).is_ok() {}
     assert_eq!(list.scan(0, 15).err(), Some(ListError::Full));
@@ -94,7 +94,7 @@ fn refusals_are_named() {
     let mut store = Store::owned(16, 4).unwrap();
     assert_eq!(store.run_bytes(&[], &mut [0; 1023]), Err(Refused::ShortAnswer));
     assert_eq!(store.run_bytes(&[3, 0, 5, 0], &mut [0; 1024]), Err(Refused::BrokenList));
-    assert_eq!(number(store.put(1, &[0; 49])).unwrap_err().0, 17);
+    assert_eq!(number(store.put(1, &[0; VALUE_BYTES + 1])).unwrap_err().0, 17);
     (0..16u64).for_each(|key| store.put(key, b"").unwrap());
     assert_eq!(number(store.put(16, b"")).unwrap_err().0, 18);
     assert_eq!(store.put(15, b"again"), Ok(()));

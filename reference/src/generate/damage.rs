@@ -2,9 +2,9 @@
 
 use super::random::Random;
 use crate::lent::*;
-use crate::limits::{LEVELS, PLACE_BYTES};
+use crate::limits::{ENTRY_BYTES, LEVELS, PLACE_BYTES, VALUE_BYTES};
 use crate::rules::Rule;
-use crate::table::read_table;
+use crate::table::{owned, read_table, table_bytes, Entry};
 
 /// Damages a store, or gives none where it has nothing to damage in this way.
 pub type Plant = fn(&mut Lent, &mut Random) -> Option<()>;
@@ -89,6 +89,17 @@ pub const DAMAGES: &[Damage] = &[
         bytes.fill(0);
         bytes[..4].copy_from_slice(&[8, 0, 32, 0]);
         Some(())
+    }),
+    alone(Rule::C, "live table with a value one byte too long", |lent, random| {
+        let place = any_place(lent, random, STATE_LIVE)?;
+        lengthen_value(&mut lent.area[place * PLACE_BYTES..][..PLACE_BYTES])
+    }),
+    alone(Rule::C, "frozen table with a value one byte too long", |lent, random| {
+        let place = any_place(lent, random, STATE_FROZEN)?;
+        lengthen_value(&mut lent.area[place * PLACE_BYTES..][..PLACE_BYTES])
+    }),
+    alone(Rule::D, "memory with a value one byte too long", |lent, _| {
+        lengthen_value(&mut lent.memory)
     }),
     alone(Rule::D, "memory of zeros", |lent, _| {
         lent.memory.fill(0);
@@ -260,6 +271,14 @@ fn append_item(lent: &mut Lent, random: &mut Random, item: u16) -> Option<()> {
     Some(())
 }
 
+/// Gives the last entry of a table a value one byte longer than the longest; everything else is as a table's.
+fn lengthen_value(bytes: &mut [u8]) -> Option<()> {
+    let mut table = owned(&read_table(bytes, 1)?);
+    *table.values_mut().next_back()? = Entry::Value(vec![7; VALUE_BYTES + 1]);
+    bytes.copy_from_slice(&table_bytes(&table));
+    Some(())
+}
+
 /// Breaks a table of at least two entries in one of several ways.
 fn damage_table(bytes: &mut [u8], random: &mut Random) -> Option<()> {
     let length = usize::from(u16::from_le_bytes([bytes[0], bytes[1]]));
@@ -273,7 +292,7 @@ fn damage_table(bytes: &mut [u8], random: &mut Random) -> Option<()> {
         2 => bytes[4] += 1,
         3 => bytes[4] -= 1,
         4 => bytes[6] = 1,
-        5 => bytes[8] = 61,
+        5 => bytes[8] = ENTRY_BYTES as u8 + 1,
         6 => bytes[8] = 11,
         7 => bytes[10] = 3,
         8 => bytes[PLACE_BYTES - 1] = 1,

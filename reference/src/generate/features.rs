@@ -1,13 +1,14 @@
 //! What is special about a planted store, so that a test run can count it.
 
-use crate::store::{Link, Store};
-use crate::table::{greatest, least};
+use crate::limits::{TABLE_ENTRIES, VALUE_BYTES};
+use crate::store::{Link, Place, Store};
+use crate::table::{greatest, least, Entries};
 
 /// A feature by name, with the test for it.
 pub type Feature = (&'static str, fn(&Store) -> bool);
 
 /// The features that planted stores must have shown.
-pub const FEATURES: [Feature; 7] = [
+pub const FEATURES: [Feature; 10] = [
     ("tables on all four levels", |store| store.levels.iter().all(|list| !list.is_empty())),
     ("a range beyond a table's own keys", |store| {
         tables(store).any(|place| {
@@ -43,7 +44,20 @@ pub const FEATURES: [Feature; 7] = [
         })
     }),
     ("no place free", |store| store.free() == 0),
+    ("a live table as long as can be", |store| {
+        tables(store).any(|place| is_longest(store.live(place).0))
+    }),
+    ("a frozen table as long as can be", |store| {
+        let frozen = |place: &Place| matches!(place, Place::Frozen { table } if is_longest(table));
+        store.places.iter().any(frozen)
+    }),
+    ("a memory table as long as can be", |store| is_longest(&store.memory)),
 ];
+
+fn is_longest(entries: &Entries) -> bool {
+    let longest = |value: &[u8]| value.len() == VALUE_BYTES;
+    entries.len() == TABLE_ENTRIES && entries.values().all(|it| it.value().is_some_and(longest))
+}
 
 fn tables(store: &Store) -> impl Iterator<Item = usize> + '_ {
     store.levels.iter().flatten().copied()

@@ -2,7 +2,7 @@
 
 use super::keys::Keys;
 use super::random::Random;
-use super::requests::any_value;
+use super::requests::Lengths;
 use crate::limits::{capacity, CARD_LINKS, LEVELS, PLACE_BYTES, TABLE_ENTRIES};
 use crate::store::{new_store, Link, Place, Store};
 use crate::table::{greatest, least, Entries, Entry, Key};
@@ -25,6 +25,10 @@ struct Garden<'a> {
     plots: [Vec<Plot>; LEVELS],
     /// Of eight entries so many are delete marks.
     marks_in_eight: usize,
+    lengths: Lengths,
+    /// Level 1 or 2 in some stores: alone above its capacity, and each of its tables has one link, so that tidy has no table to
+    /// choose and merges one in place of a choice.
+    crowded: Option<usize>,
 }
 
 /// Plants a store of so many places with keys of this set.
@@ -36,12 +40,27 @@ pub fn planted(random: &mut Random, places: usize, keys: Keys) -> Store {
     // Some stores are full, some nearly, some have room.
     let spare = *random.pick(&[0, 0, 1, 2, 3, places / 4, places / 2]);
     ground.truncate(places - spare);
-    let marks_in_eight = *random.pick(&[1, 2, 2, 6, 8]);
-    let mut garden =
-        Garden { random, keys, store, ground, plots: Default::default(), marks_in_eight };
+    let lengths = Lengths::drawn(random);
+    let marks_in_eight = match lengths {
+        Lengths::Any => *random.pick(&[1, 2, 2, 6, 8]),
+        Lengths::Longest => 0,
+    };
+    // Level 2 needs so many places to be crowded.
+    let levels: &[usize] = if ground.len() > 60 { &[1, 2] } else { &[1] };
+    let crowded = random.once_in(6).then(|| *random.pick(levels));
+    let mut garden = Garden {
+        random,
+        keys,
+        store,
+        ground,
+        plots: Default::default(),
+        marks_in_eight,
+        lengths,
+        crowded,
+    };
     garden.plant_levels();
     garden.plant_frozen();
-    if garden.random.once_in(2) {
+    if garden.crowded.is_none() && garden.random.once_in(2) {
         // What is left goes to level 0, so that no more than the spare places are free.
         garden.plant_level_0(garden.ground.len());
     }
@@ -54,13 +73,20 @@ impl Garden<'_> {
     fn plant_levels(&mut self) {
         let mut levels = [0, 1, 2, 3];
         self.random.shuffle(&mut levels);
+        // A crowded level takes its places before the others do.
+        levels.sort_by_key(|level| Some(*level) != self.crowded);
         let kept = self.random.below(self.ground.len() / 2 + 1);
         for level in levels {
             let most = [6, 16, 48, 24][level];
             let any = self.random.below(most + 1);
             // Empty levels let tables move, levels just above capacity make tidy choose there.
             let full = if level < LEVELS - 1 { capacity(level) } else { 1 };
-            let wanted = *self.random.pick(&[0, full, full + 1, any, any]);
+            let wanted = match self.crowded {
+                Some(crowded) if level == crowded => full + 1,
+                Some(_) if level < LEVELS - 1 => any.min(full),
+                Some(_) => any,
+                None => *self.random.pick(&[0, full, full + 1, any, any]),
+            };
             let count = wanted.min(self.ground.len() - kept);
             match level {
                 0 => self.plant_level_0(count),
@@ -111,16 +137,18 @@ impl Garden<'_> {
         if self.random.below(8) < self.marks_in_eight {
             return Entry::DeleteMark;
         }
-        Entry::Value(any_value(self.random))
+        Entry::Value(self.lengths.value(self.random))
     }
 
     /// Frozen tables with links on some tables of one level each.
     fn plant_frozen(&mut self) {
         let tries = self.random.below(2 * self.ground.len() + 1);
         // With links on one level alone, merges there are not held up by merges on others.
-        let levels: &[usize] = self.random.pick::<&[usize]>(&[&[1, 2, 3], &[1], &[2], &[3]]);
+        let any: &[usize] = self.random.pick::<&[usize]>(&[&[1, 2, 3], &[1], &[2], &[3]]);
+        let crowded = self.crowded;
+        let levels = crowded.as_ref().map_or(any, std::slice::from_ref);
         // Where every table of a level has links, tidy merges in place of a choice.
-        let cover = self.random.once_in(2);
+        let cover = crowded.is_some() || self.random.once_in(2);
         let tries = if cover { self.ground.len() } else { tries };
         for _ in 0..tries {
             let level = *self.random.pick(levels);
@@ -131,6 +159,9 @@ impl Garden<'_> {
             let mut table = Entries::new();
             let anywhere = self.random.below(self.plots[level].len());
             let bare = self.plots[level].iter().position(|plot| self.is_bare(plot.place));
+            if crowded.is_some() && bare.is_none() {
+                return;
+            }
             let first = if cover { bare.unwrap_or(anywhere) } else { anywhere };
             let hung = 1 + self.random.below(6);
             for number in (first..self.plots[level].len()).take(hung) {
@@ -158,7 +189,7 @@ impl Garden<'_> {
         let end = *self.random.pick(&plot.points);
         let high = if self.random.once_in(3) { region_high } else { end.max(start) };
         self.add_link(Link { place, low, high }, on, start, table);
-        if high < region_high && self.random.once_in(3) {
+        if high < region_high && self.crowded.is_none() && self.random.once_in(3) {
             let rest = Link { place, low: high + 1, high: region_high };
             self.add_link(rest, on, high + 1, table);
         }
@@ -182,7 +213,12 @@ impl Garden<'_> {
 
     /// Entries that may lie in no link's range and are then not part of the store's content.
     fn add_unseen(&mut self, table: &mut Entries) {
-        for _ in 0..self.random.below(6) {
+        let tries = match self.lengths {
+            Lengths::Any => self.random.below(6),
+            // Until the table is full, but for keys that come twice.
+            Lengths::Longest => 2 * TABLE_ENTRIES,
+        };
+        for _ in 0..tries {
             if table.len() < TABLE_ENTRIES {
                 let key = self.keys.draw(self.random);
                 let entry = self.any_entry();

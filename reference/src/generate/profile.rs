@@ -2,7 +2,7 @@
 
 use super::keys::Keys;
 use super::random::Random;
-use super::requests::{self, any_value};
+use super::requests::{self, Lengths};
 use crate::limits::LIST_BYTES;
 
 /// How often each kind of request comes, relative to the others.
@@ -60,6 +60,7 @@ type Maker = fn(&mut Source, u64) -> Vec<u8>;
 pub struct Source {
     profile: Profile,
     keys: Keys,
+    lengths: Lengths,
     pub random: Random,
     /// What is left of a load that has begun, last first.
     waiting: Vec<Vec<u8>>,
@@ -67,7 +68,9 @@ pub struct Source {
 
 impl Source {
     pub fn new(profile: Profile, keys: Keys, seed: u64) -> Source {
-        Source { profile, keys, random: Random::new(seed), waiting: Vec::new() }
+        let mut random = Random::new(seed);
+        let lengths = Lengths::drawn(&mut random);
+        Source { profile, keys, lengths, random, waiting: Vec::new() }
     }
 
     /// The next request.
@@ -78,7 +81,7 @@ impl Source {
         let profile = self.profile;
         let key = self.keys.draw(&mut self.random);
         let makers: [(usize, Maker); 9] = [
-            (profile.puts, |source, key| requests::put(key, &any_value(&mut source.random))),
+            (profile.puts, Source::put),
             (profile.deletes, |_, key| requests::delete(key)),
             (profile.look_ups, |_, key| requests::look_up(key)),
             (profile.scans, Source::scan),
@@ -112,6 +115,10 @@ impl Source {
         list
     }
 
+    fn put(&mut self, key: u64) -> Vec<u8> {
+        requests::put(key, &self.lengths.value(&mut self.random))
+    }
+
     /// A scan from the key: up to another one, over all keys, or over this key alone.
     fn scan(&mut self, key: u64) -> Vec<u8> {
         let other = self.keys.draw(&mut self.random);
@@ -131,9 +138,9 @@ impl Source {
         self.waiting.push(requests::flush());
         for _ in 0..self.random.below(self.profile.load_keys) {
             let key = self.keys.draw(&mut self.random);
-            let value = any_value(&mut self.random);
-            self.waiting.push(requests::put(key, &value));
+            let put = self.put(key);
+            self.waiting.push(put);
         }
-        requests::put(key, &any_value(&mut self.random))
+        self.put(key)
     }
 }

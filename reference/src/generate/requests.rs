@@ -38,6 +38,32 @@ pub fn report() -> Vec<u8> {
     request(7, &[])
 }
 
+/// How long the values of a store or a source of requests are.
+#[derive(Clone, Copy, PartialEq, Eq, Debug)]
+pub enum Lengths {
+    Any,
+    /// All as long as they may be, so that tables and replies come to their greatest lengths, too.
+    Longest,
+}
+
+impl Lengths {
+    /// Now and then the longest.
+    pub fn drawn(random: &mut Random) -> Lengths {
+        if random.once_in(6) {
+            Lengths::Longest
+        } else {
+            Lengths::Any
+        }
+    }
+
+    pub fn value(self, random: &mut Random) -> Vec<u8> {
+        match self {
+            Lengths::Any => any_value(random),
+            Lengths::Longest => random.bytes(VALUE_BYTES),
+        }
+    }
+}
+
 /// A value of any length; the shortest and the longest come often.
 pub fn any_value(random: &mut Random) -> Vec<u8> {
     let length = match random.below(8) {
@@ -60,7 +86,7 @@ pub fn refused(random: &mut Random) -> Vec<u8> {
         1 => scan(key | 1, random.word() % (key | 1)),
         _ => {
             let lengths: [(u16, &[usize]); 7] = [
-                (1, &[0, 7, 9 + VALUE_BYTES, 200]),
+                (1, &[0, 7, 8 + VALUE_BYTES + 1, 200]),
                 (2, &[0, 7, 9, 16]),
                 (3, &[0, 7, 9, 16]),
                 (4, &[0, 8, 15, 17, 24]),

@@ -9,6 +9,7 @@ use reference::generate::random::Random;
 use reference::generate::requests::report;
 use reference::implementation::Reference;
 use reference::lent::{Lent, HEAD_CURSOR, HEAD_LENGTHS};
+use reference::limits::{ENTRY_BYTES, TABLE_HEAD};
 use reference::reached::Reached;
 use reference::rules::{check, Broken, Rule};
 use reference::run::run;
@@ -109,7 +110,8 @@ fn disturb(lent: &mut Lent, random: &mut Random) {
             lent.lists[item] = value as u16;
         }
         3 => {
-            let byte = random.below(lent.area.len() / 1024) * 1024 + random.below(60);
+            let byte = random.below(lent.area.len() / 1024) * 1024
+                + random.below(TABLE_HEAD + ENTRY_BYTES);
             lent.area[byte] = value as u8;
         }
         _ => {

@@ -2,8 +2,8 @@
 
 use crate::build::{hex, new_lent, serve};
 use reference::generate::random::Random;
-use reference::generate::requests::{any_value, delete, put};
-use reference::limits::{PLACE_BYTES, TABLE_ENTRIES};
+use reference::generate::requests::{any_value, delete, look_up, put, scan};
+use reference::limits::{ENTRY_BYTES, PLACE_BYTES, TABLE_ENTRIES, TABLE_HEAD, VALUE_BYTES};
 use reference::table::{owned, read_table, table_bytes, Entries, Entry};
 
 /// Zeros after the bytes that are in use.
@@ -63,12 +63,47 @@ fn a_table_has_an_entry_and_the_memory_may_have_none() {
     assert_eq!(read_table(&[0; PLACE_BYTES], 0), None);
 }
 
+/// A table of so many values of one length.
+fn table_of(count: usize, length: usize) -> [u8; PLACE_BYTES] {
+    let entry = |key| (key as u64, Entry::Value(vec![1; length]));
+    table_bytes(&(0..count).map(entry).collect())
+}
+
 #[test]
 fn a_full_place_is_a_table_and_a_longer_value_is_not() {
-    let longest: Entries = (0..16).map(|key| (key, Entry::Value(vec![1; 48]))).collect();
-    let bytes = table_bytes(&longest);
-    assert_eq!(bytes[..8], hex("C803 2000 1000 0000"));
+    let bytes = table_of(TABLE_ENTRIES, VALUE_BYTES);
+    assert_eq!(bytes[..8], hex("F803 2000 1000 0000"));
+    assert_eq!(usize::from(bytes[8]), ENTRY_BYTES);
+    assert!(bytes[TABLE_HEAD + TABLE_ENTRIES * ENTRY_BYTES..].iter().all(|byte| *byte == 0));
     assert!(read_table(&bytes, 1).is_some());
-    let longer: Entries = [(5, Entry::Value(vec![1; 49]))].into();
-    assert_eq!(read_table(&table_bytes(&longer), 1), None);
+    assert_eq!(read_table(&table_of(1, VALUE_BYTES + 1), 1), None);
+    assert_eq!(read_table(&table_of(1, VALUE_BYTES + 1), 0), None);
+}
+
+#[test]
+fn values_of_48_49_and_51_bytes_are_taken_and_of_52_refused() {
+    for length in [0, 47, 48, 49, 50, 51] {
+        assert!(read_table(&table_of(1, length), 1).is_some(), "{length}");
+        let mut lent = new_lent(16, 4);
+        let value = vec![7; length];
+        let answers = serve(&mut lent, &[put(5, &value), look_up(5)]).answers;
+        let found = [&[6 + length as u8, 0, 3, 0, 0, 0], &value[..]].concat();
+        assert_eq!(answers, [hex("0600 0100 0000"), found].concat());
+    }
+    for length in [52, 53, 60, 200] {
+        assert_eq!(read_table(&table_of(1, length), 1), None, "{length}");
+        let mut lent = new_lent(16, 4);
+        let answers = serve(&mut lent, &[put(5, &vec![7; length])]).answers;
+        assert_eq!(answers, hex("0600 0100 1100"), "{length}");
+    }
+}
+
+#[test]
+fn sixteen_longest_values_fill_one_scan() {
+    let mut lent = new_lent(16, 4);
+    let puts: Vec<Vec<u8>> = (0..16).map(|key| put(key, &[7; 51])).collect();
+    serve(&mut lent, &puts);
+    let answers = serve(&mut lent, &[scan(0, u64::MAX)]).answers;
+    assert_eq!(answers.len(), 1018);
+    assert_eq!(answers[..12], hex("FA03 0400 0000 1000 0000 3F00"));
 }

@@ -17,6 +17,7 @@ const UNSEEN_BY_JUDGE: &[(Slip, &str)] = &[
     (Slip::LevelAfterStepReplied, "demand 3 does not measure the reply of a tidy"),
     (Slip::StopWithRoomLeft, "demand 3 takes the requests served as they are"),
     (Slip::FreedPlaceCleared, "demand 3 does not measure the bytes of free places"),
+    (Slip::LongEntryUnsound, "demand 3 does not measure runs that are refused"),
     (
         Slip::CursorAtTakenPlace,
         "the place just taken is not free, so the next one taken is the same",
@@ -31,6 +32,7 @@ const UNSEEN_BY_JUDGE: &[(Slip, &str)] = &[
 const UNSEEN_BY_BOOK: &[(Slip, &str)] = &[
     (Slip::StopWithRoomLeft, "the judge takes the requests served as they are"),
     (Slip::FreedPlaceCleared, "the judge does not know the bytes of free places"),
+    (Slip::LongEntryUnsound, "the judge follows no run that is refused"),
 ];
 
 /// Histories that a mutant may live through before it counts as not caught.

@@ -5,7 +5,7 @@ use crate::common::announce;
 use reference::generate::requests::{flush, put, scan};
 use reference::generate::vectors::vectors;
 use reference::lent::Lent;
-use reference::limits::LIST_BYTES;
+use reference::limits::{LIST_BYTES, REPLY_BYTES, VALUE_BYTES};
 use reference::program::survey;
 use reference::request::split;
 use reference::run::run;
@@ -47,9 +47,9 @@ fn answers_do_not_depend_on_where_the_run_stops() {
 
 #[test]
 fn more_answers_than_the_longest_list_are_all_written() {
-    let fill: Vec<Vec<u8>> = (0..16).map(|key| put(key, &[7; 48])).collect();
+    let fill: Vec<Vec<u8>> = (0..16).map(|key| put(key, &[7; VALUE_BYTES])).collect();
     let input = [fill.concat(), scan(0, u64::MAX).repeat(3000)].concat();
-    assert_eq!(survey(&input).len(), 16 * 6 + 3000 * 970);
+    assert_eq!(survey(&input).len(), 16 * 6 + 3000 * REPLY_BYTES);
 }
 
 #[test]

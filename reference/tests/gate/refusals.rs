@@ -7,7 +7,7 @@ use reference::generate::broken::BREAKAGES;
 use reference::generate::random::Random;
 use reference::generate::requests::{flush, look_up, put, request, scan, tidy};
 use reference::lent::{Lent, HEAD_THRESHOLD};
-use reference::limits::LIST_BYTES;
+use reference::limits::{LIST_BYTES, VALUE_BYTES};
 use reference::rules::{check, Rule};
 use reference::run::{make, run};
 use reference::table::Key;
@@ -121,7 +121,7 @@ fn numbers_16_and_17_in_this_order() {
     assert_eq!(refusal(&lent, request(0, &[1; 300])), hex("06 00 00 00 10 00"));
     assert_eq!(refusal(&lent, request(0x0108, &[])), hex("06 00 08 01 10 00"));
     assert_eq!(refusal(&lent, request(1, &[0; 7])), hex("06 00 01 00 11 00"));
-    assert_eq!(refusal(&lent, request(1, &[0; 57])), hex("06 00 01 00 11 00"));
+    assert_eq!(refusal(&lent, request(1, &[0; 8 + VALUE_BYTES + 1])), hex("06 00 01 00 11 00"));
     assert_eq!(refusal(&lent, request(4, &[255; 15])), hex("06 00 04 00 11 00"));
     assert_eq!(refusal(&lent, request(6, &[0])), hex("06 00 06 00 11 00"));
 }
@@ -134,7 +134,7 @@ fn number_18_for_the_17th_key() {
     serve(&mut lent, &(0..16).map(|key| put(key, &[])).collect::<Vec<_>>());
     assert_eq!(refusal(&lent, put(99, &[])), hex("06 00 01 00 12 00"));
     // 17 comes before 18.
-    assert_eq!(refusal(&lent, request(1, &[9; 57])), hex("06 00 01 00 11 00"));
+    assert_eq!(refusal(&lent, request(1, &[9; 8 + VALUE_BYTES + 1])), hex("06 00 01 00 11 00"));
 }
 
 #[test]
