@@ -114,11 +114,10 @@ fn small_new_stores_from_seed_1000001() {
 
 #[test]
 fn middle_new_stores() {
-    // A merge in place of a choice seldom wants more places than are free here; on planted stores it often does.
-    let without = ["merge without results", "20 by a merge in place of a choice"];
-    let mut required = requests_but(&without);
+    let mut required = requests_but(&["merge without results"]);
     required.extend(all_thresholds("new"));
-    let tally = complete(&MIDDLE, 2_400_001, MIDDLE_REQUESTS, required);
+    // A merge in place of a choice seldom wants more places than are free; it does from this seed on.
+    let tally = complete(&MIDDLE, 2_100_001, MIDDLE_REQUESTS, required);
     assert!(sizes(&tally, "new") > 30);
 }
 

@@ -17,7 +17,7 @@ use Rattle.table.specs.Valid.{Values}
 use Rattle.table.proofs.Decode.{entries-short}
 use Rattle.ldc.specs.Lists.{isSome, isEmpty}
 use Rattle.ldc.specs.Store.{Store, within}
-use Rattle.ldc.specs.Request.{Request, Served, replyBytes, replyOf, known, bodyGood}
+use Rattle.ldc.specs.Request.{Request, Served, replyBytes, replyOf, replyHeadSize, known, bodyGood}
 use Rattle.ldc.specs.Memtable.{servePut}
 use Rattle.ldc.specs.Place.{freePlaces, serveFlush}
 use Rattle.ldc.specs.Read.{gather, readOrder, holdsValue, contents, valueOf, lookUp, serveLookUp, scanLimit, scanBody, serveScan, serveReport}
@@ -76,9 +76,9 @@ value-found k (e ∷ es) h v q =
 
 -- ---- the ways out
 
--- A body that leaves room for the six bytes before it, and a result that fits into two.
+-- A body that fits the room of an answer with the bytes before it, and a result that fits into two.
 record Short (v : Served) : Type 0 where
-  body : length (v .body) ≤ 1018
+  body : replyHeadSize + length (v .body) ≤ roomLimit
   result : v .result < 65536
 
 put-short : (s : Store) (e : Entry) → Short (servePut s e)
@@ -105,11 +105,11 @@ report-short : (s : Store) → Short (serveReport s)
 unfolding serveReport bytesOf
 report-short s = omega arith
 
--- At most 16 entries, each as long as may be.
-pub scan-short : (es : List Entry) → Values es → length (scanBody es) ≤ 1018
+-- At most `scanLimit` entries, each as long as may be.
+pub scan-short : (es : List Entry) → Values es → replyHeadSize + length (scanBody es) ≤ roomLimit
 unfolding scanBody
 scan-short es h =
-    let n : length (take scanLimit es) ≤ 16 = rw length-take (omega arith) in
+    let n : length (take scanLimit es) ≤ scanLimit = rw length-take (omega arith) in
     simp (length-append, length-bytesOf) (omega (arith, entries-short (take scanLimit es) (values-take scanLimit es h)))
 
 module _ (s : Store) (S : Sound s) where
