@@ -59,6 +59,7 @@ typedef struct zilgwern_link {
     uint64_t place;
     uint64_t low;
     uint64_t high;
+    uint64_t number; /* of the place's entries in the range: all of them, delete marks and those that a newer one hides too */
 } zilgwern_link;
 
 /* What a card says of its place. */
@@ -71,7 +72,7 @@ typedef struct zilgwern_card {
     zilgwern_link links[ZILGWERN_CARD_LINKS];
 } zilgwern_card;
 
-ZILGWERN_STATIC_ASSERT(sizeof(zilgwern_card) == 208, "a card is 26 words of 64 bits");
+ZILGWERN_STATIC_ASSERT(sizeof(zilgwern_card) == 272, "a card is 34 words of 64 bits");
 
 /* A mark: the key after which tidy goes on choosing in a level. flag is 1 if there is a key; else both are 0. */
 typedef struct zilgwern_mark {
@@ -81,7 +82,8 @@ typedef struct zilgwern_mark {
 
 /* The head of the book. */
 typedef struct zilgwern_head {
-    uint64_t threshold;                    /* 1 to 8: so many links make a merge due */
+    uint64_t threshold;                    /* 1 to 8: so many links make a merge due, or fewer whose numbers add up to at
+                                              least the entries of their table */
     uint64_t cursor;                       /* the place from which the next free one is looked for */
     zilgwern_mark marks[2];                /* of level 1 and of level 2 */
     uint64_t lengths[ZILGWERN_LEVELS];     /* live tables on levels 0 to 3 */
@@ -118,7 +120,8 @@ enum {
     ZILGWERN_RULE_B = 'B', /* each place is free or frozen and in no list, or live and in one list once; only live cards link */
     ZILGWERN_RULE_C = 'C', /* live and frozen places hold tables */
     ZILGWERN_RULE_D = 'D', /* the memory table is one, with 0 to 16 entries */
-    ZILGWERN_RULE_E = 'E', /* links: on levels 1 to 3, at most the threshold, ranges good, on frozen places, sharing no key */
+    ZILGWERN_RULE_E = 'E', /* links: on levels 1 to 3, at most the threshold, ranges and numbers good, on frozen places, sharing
+                              no key */
     ZILGWERN_RULE_F = 'F', /* a place is frozen exactly if a link names it */
     ZILGWERN_RULE_G = 'G'  /* tables of levels 1 to 3 lie apart and rise; parts of the book not in use are zero */
 };
@@ -143,7 +146,7 @@ enum {
     ZILGWERN_WRONG_RANGE = 19,   /* scan with low above high */
     ZILGWERN_NO_PLACE = 20,      /* fewer free places than the flush or the due merge writes */
     ZILGWERN_NO_VALUE = 64,      /* look up: no value under this key */
-    ZILGWERN_NOTHING_TO_DO = 65  /* flush of an empty memory table; tidy with no step due */
+    ZILGWERN_NOTHING_TO_DO = 65  /* flush of an empty memory table; tidy with no merge due and no level above its capacity */
 };
 
 /* Steps in the reply of a tidy. */

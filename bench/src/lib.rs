@@ -12,5 +12,6 @@ pub mod places;
 pub mod proved;
 pub mod report;
 pub mod rounds;
+pub mod thresholds;
 pub mod upper;
 pub mod workload;

@@ -4,21 +4,25 @@
 use crate::engine::{Engine, SeeEntry, SeeValue, MOST_TIDIES};
 use crate::places::Steps;
 use crate::workload::{Key, Put};
-use reference::lent::{Lent, ROW_STATE, STATE_FREE};
-use reference::limits::{ANSWER_ROOM, LIST_BYTES, REPLY_BYTES, TABLE_ENTRIES, VALUE_BYTES};
+use reference::lent::{Lent, HEAD_LENGTHS, ROW_STATE, STATE_FREE};
+use reference::limits::{ANSWER_ROOM, LEVELS, LIST_BYTES, REPLY_BYTES, TABLE_ENTRIES, VALUE_BYTES};
 
-/// The threshold of all stores here.
+/// The threshold of the stores that are timed.
 pub const THRESHOLD: u64 = 4;
 
 /// Tidies behind a flush in the first list.
 const FIRST_TIDIES: usize = 4;
+
+/// Bytes of the replies of puts, flushes and tidies at most, and of a report.
+const WRITE_REPLY: usize = 10;
+const REPORT_REPLY: usize = 22;
 
 /// Runs a list on lent memory, answers at the front of the buffer: requests served and bytes written. A refused run ends the
 /// bench.
 pub trait Runner {
     const NAME: &'static str;
 
-    fn make(places: usize) -> Lent;
+    fn make(places: usize, threshold: u64) -> Lent;
 
     fn run(&self, lent: &mut Lent, list: &[u8], answers: &mut [u8]) -> (usize, usize);
 }
@@ -44,6 +48,9 @@ struct Done {
     idle: usize,
 }
 
+/// Live tables on each level.
+pub type Live = [usize; LEVELS];
+
 /// Appends a request: length, kind, body.
 #[inline]
 fn push(list: &mut Vec<u8>, kind: u16, key: Option<Key>, value: &[u8]) {
@@ -66,9 +73,13 @@ fn word(bytes: &[u8], at: usize) -> u64 {
 
 impl<R: Runner> Listed<R> {
     pub fn new(runner: R, places: usize) -> Listed<R> {
+        Listed::with_threshold(runner, places, THRESHOLD)
+    }
+
+    pub fn with_threshold(runner: R, places: usize, threshold: u64) -> Listed<R> {
         Listed {
             runner,
-            lent: R::make(places),
+            lent: R::make(places, threshold),
             list: Vec::with_capacity(LIST_BYTES),
             asked: 0,
             answers: vec![0; ANSWER_ROOM],
@@ -79,6 +90,10 @@ impl<R: Runner> Listed<R> {
 
     pub fn lent(&self) -> &Lent {
         &self.lent
+    }
+
+    pub fn live(&self) -> Live {
+        std::array::from_fn(|level| self.lent.head[HEAD_LENGTHS + level] as usize)
     }
 
     fn ask(&mut self, kind: u16, key: Option<Key>, value: &[u8]) {
@@ -103,7 +118,7 @@ impl<R: Runner> Listed<R> {
     /// Puts and flushes must be done, and tidies too or find nothing to do: no other result may come.
     fn run_writes(&mut self) -> Done {
         let mut done = Done::default();
-        let mut replies = self.run(10);
+        let mut replies = self.run(WRITE_REPLY);
         while !replies.is_empty() {
             let (whole, rest) = replies.split_at(pair(replies, 0));
             match (pair(whole, 2), pair(whole, 4)) {
@@ -116,6 +131,28 @@ impl<R: Runner> Listed<R> {
             replies = rest;
         }
         done
+    }
+
+    /// So many tidies in one list, each with a report behind it: of those that did something the level, and what is live after it.
+    pub fn told_tidies(&mut self, count: usize) -> Vec<(usize, Live)> {
+        for _ in 0..count {
+            self.ask(6, None, &[]);
+            self.ask(7, None, &[]);
+        }
+        let mut replies = self.run(WRITE_REPLY + REPORT_REPLY);
+        let mut told = Vec::new();
+        while !replies.is_empty() {
+            let (tidy, rest) = replies.split_at(pair(replies, 0));
+            let (report, rest) = rest.split_at(pair(rest, 0));
+            let live = |level: usize| pair(report, 8 + 2 * level);
+            match pair(tidy, 4) {
+                0 => told.push((pair(tidy, 8), std::array::from_fn(live))),
+                65 => {}
+                result => panic!("{}: a tidy gives {result}", R::NAME),
+            }
+            replies = rest;
+        }
+        told
     }
 
     /// A put, after a flush with its tidies if the memory table is full of other keys.

@@ -10,6 +10,7 @@ use bench::places::{Steps, Watched, Written};
 use bench::proved::Proved;
 use bench::report::{self, grouped, SizeTimes};
 use bench::rounds::Plan;
+use bench::thresholds::{count, KEYS_A_PLACE};
 use bench::upper::Upper;
 use bench::workload::Workload;
 use std::process::ExitCode;
@@ -128,6 +129,29 @@ fn written(options: &Options) -> Result<(), String> {
     Ok(())
 }
 
+/// The same keys for each threshold.
+fn by_threshold(options: &Options) -> Result<(), String> {
+    let mut all = Vec::new();
+    for (places, _) in &options.sizes {
+        let keys = KEYS_A_PLACE * places;
+        let uniform = Workload::uniform(options.seed, keys, LOOK_UPS, SCANS);
+        let skewed = Workload::skewed(options.seed, keys, LOOK_UPS, SCANS);
+        for (name, workload) in [("uniform", uniform), ("skewed", skewed)] {
+            let keys = format!("{name}, P = {}, {} keys", grouped(*places), grouped(keys));
+            say(&format!("by threshold: {keys}"));
+            let mut row = Vec::new();
+            for threshold in &options.thresholds {
+                let mut store = Listed::with_threshold(Proved, *places, *threshold);
+                row.push(count(&mut store, &workload.puts));
+                Expected::of(&workload).compare(&workload, &mut store)?;
+            }
+            all.push((keys, row));
+        }
+    }
+    println!("{}", report::by_threshold(&options.thresholds, &all));
+    Ok(())
+}
+
 fn run(options: &Options) -> Result<(), String> {
     println!("{}", report::about(options.seed, options.rounds));
     if !options.measures.is_empty() {
@@ -138,6 +162,9 @@ fn run(options: &Options) -> Result<(), String> {
     }
     if options.written {
         written(options)?;
+    }
+    if options.by_threshold {
+        by_threshold(options)?;
     }
     Ok(())
 }

@@ -4,7 +4,7 @@ use crate::engines::KINDS;
 use crate::rounds::Measure;
 
 pub const HELP: &str = "\
-run: what the survey store costs, beside other stores on the same keys, as a Markdown table
+run: what the survey store costs, beside other stores on the same keys, as Markdown tables
 
 usage: bench/run [OPTIONS]
 
@@ -13,15 +13,22 @@ usage: bench/run [OPTIONS]
   --rounds N        rounds of each measure, medians are told (7)
   --places P        one size of store alone: 4096 or 256
   --only STORES     of zilgwern, second, btreemap, lmdb, leveldb, sqlite; with commas between
-  --measure NAMES   of put, hit, miss, scan, check, written; with commas between
+  --measure NAMES   of put, hit, miss, scan, check, written, threshold; with commas between
+  --thresholds LIST of the table 'threshold': numbers from 1 to 8, with commas between (1,4,8)
   --repeat N        look-ups and scans of a round so many times (1)
   --plain           compare no answers and time no empty runs: for a profile of one store
   --no-install      of bench/run: install no packages
   -h, --help        this text
 
-The table goes to standard output, progress to standard error. LMDB, LevelDB and SQLite come from the Debian packages liblmdb0,
+The tables go to standard output, progress to standard error. LMDB, LevelDB and SQLite come from the Debian packages liblmdb0,
 libleveldb1d and libsqlite3-0; bench/run installs them where it may, and a store that is not there is left out with a word. All
 answers are compared with what was put: the status is 1 where one differs.
+
+Times are those of stores with threshold 4. The last two tables count and time nothing, so they are the same on every machine:
+'written' has the places that compaction writes, beside upper-level driven compaction, with as many keys as fit with threshold 4;
+'threshold' has the thresholds side by side on the same keys, fewer than above so that they fit with threshold 1 too: places written
+for each put (what compaction costs in all), the most by one step (how long a single tidy may take), and the steps that a flush needs
+(tidies to ask for behind it). A higher threshold writes less and leaves more links for look-ups and scans to pass.
 ";
 
 /// Sizes of stores, and how many keys fit when half of them are overwritten.
@@ -41,6 +48,8 @@ pub struct Options {
     pub measures: Vec<Measure>,
     pub check: bool,
     pub written: bool,
+    pub by_threshold: bool,
+    pub thresholds: Vec<u64>,
 }
 
 impl Options {
@@ -57,6 +66,8 @@ impl Options {
             measures: Measure::ALL.to_vec(),
             check: true,
             written: true,
+            by_threshold: true,
+            thresholds: vec![1, 4, 8],
         };
         let mut words = words.iter();
         while let Some(word) = words.next() {
@@ -97,13 +108,14 @@ impl Options {
             }
             "--only" => self.only = stores(&value()?)?,
             "--measure" => self.take_measures(&value()?)?,
+            "--thresholds" => self.thresholds = thresholds(name, &value()?)?,
             _ => return Err(format!("{name}: no such option; see `bench/run --help`")),
         }
         Ok(())
     }
 
     fn take_measures(&mut self, words: &str) -> Result<(), String> {
-        (self.check, self.written) = (false, false);
+        (self.check, self.written, self.by_threshold) = (false, false, false);
         self.measures.clear();
         for word in words.split(',') {
             let measure = Measure::ALL.into_iter().find(|measure| measure.word() == word);
@@ -111,6 +123,7 @@ impl Options {
                 (_, Some(measure)) => self.measures.push(measure),
                 ("check", _) => self.check = true,
                 ("written", _) => self.written = true,
+                ("threshold", _) => self.by_threshold = true,
                 _ => return Err(format!("--measure: {word}: no such measure")),
             }
         }
@@ -131,6 +144,14 @@ impl Options {
 
 fn number(name: &str, word: &str) -> Result<usize, String> {
     word.parse().map_err(|_| format!("{name}: {word} is not a whole number"))
+}
+
+fn thresholds(name: &str, words: &str) -> Result<Vec<u64>, String> {
+    let known = |word: &str| match number(name, word)? as u64 {
+        threshold @ 1..=8 => Ok(threshold),
+        other => Err(format!("{name}: {other} is not 1 to 8")),
+    };
+    words.split(',').map(known).collect()
 }
 
 fn stores(words: &str) -> Result<Vec<String>, String> {

@@ -91,14 +91,20 @@ impl<'a> Watched<'a> {
 
     /// All puts, flushed when the memory table is full.
     pub fn lead(&mut self, puts: &[Put], progress: &mut dyn FnMut(usize)) {
-        let mut rest = puts;
-        while !rest.is_empty() {
-            let (batch, others) = rest.split_at(one_table(rest));
+        for batch in tables(puts) {
             self.round(batch);
-            progress(puts.len() - others.len());
-            rest = others;
+            progress(self.written.puts);
         }
     }
+}
+
+/// The puts in parts, each as many as an empty memory table takes.
+pub fn tables(mut puts: &[Put]) -> impl Iterator<Item = &[Put]> {
+    std::iter::from_fn(move || {
+        let (batch, others) = puts.split_at(one_table(puts));
+        puts = others;
+        (!batch.is_empty()).then_some(batch)
+    })
 }
 
 /// How many of these puts fill an empty memory table, so that the next one would be refused.

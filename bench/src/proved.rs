@@ -1,6 +1,6 @@
 //! The proved store over its static library, on memory as the second implementation has it, so that both run the same bytes.
 
-use crate::lists::{Runner, THRESHOLD};
+use crate::lists::Runner;
 use differential::{make, run_in_place, Outcome};
 use reference::lent::Lent;
 
@@ -9,9 +9,9 @@ pub struct Proved;
 impl Runner for Proved {
     const NAME: &'static str = "zilgwern";
 
-    fn make(places: usize) -> Lent {
+    fn make(places: usize, threshold: u64) -> Lent {
         let mut lent = Lent::zeroed(places);
-        assert_eq!(make(&mut lent, THRESHOLD), 0, "{}: making a store", Self::NAME);
+        assert_eq!(make(&mut lent, threshold), 0, "{}: making a store", Self::NAME);
         lent
     }
 

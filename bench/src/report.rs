@@ -1,7 +1,8 @@
-//! The tables, in Markdown: times with ratios, the aims, checks, and places written.
+//! The tables, in Markdown: times with ratios, the aims, checks, places written, and thresholds side by side.
 
 use crate::checks::CheckTimes;
 use crate::engines::{Kind, KINDS};
+use crate::lists::THRESHOLD;
 use crate::places::Written;
 use crate::rounds::{Measure, Times};
 
@@ -76,7 +77,7 @@ impl SizeTimes<'_> {
 
     pub fn table(&self, measures: &[Measure]) -> String {
         let size = format!(
-            "P = {}, T = 4, {} keys, {} puts",
+            "P = {}, T = {THRESHOLD}, {} keys, {} puts",
             grouped(self.places),
             grouped(self.keys),
             grouped(self.puts)
@@ -174,13 +175,16 @@ pub fn checks(all: &[CheckTimes]) -> String {
     text
 }
 
+fn each(count: usize, of: usize) -> f64 {
+    count as f64 / of as f64
+}
+
 /// What compaction writes: keys, compaction, and what was counted.
 pub fn written(all: &[(String, String, Written)]) -> String {
     let titles = "keys|compaction|places written for each put|for each flushed table|most by one step|steps for each flush";
     let titles: Vec<String> = titles.split('|').map(str::to_string).collect();
     let mut text = head(&titles);
     for (keys, compaction, written) in all {
-        let each = |count: usize, of: usize| count as f64 / of as f64;
         text += &line(&[
             keys.clone(),
             compaction.clone(),
@@ -189,6 +193,26 @@ pub fn written(all: &[(String, String, Written)]) -> String {
             written.most.to_string(),
             format!("{:.2}", each(written.tidies, written.flushes)),
         ]);
+    }
+    text
+}
+
+/// Thresholds side by side: for each of the keys what was counted with each threshold.
+pub fn by_threshold(thresholds: &[u64], all: &[(String, Vec<Written>)]) -> String {
+    type Cell = fn(&Written) -> String;
+    let columns: [(&str, Cell); 3] = [
+        ("places written for each put", |it| format!("{:.3}", each(it.places, it.puts))),
+        ("most by one step", |it| it.most.to_string()),
+        ("steps for each flush", |it| format!("{:.2}", each(it.tidies, it.flushes))),
+    ];
+    let mut titles = vec!["keys, lower-level driven: proved store".to_string()];
+    for (what, _) in columns {
+        titles.extend(thresholds.iter().map(|threshold| format!("{what}, T = {threshold}")));
+    }
+    let mut text = head(&titles);
+    for (keys, row) in all {
+        let cells = columns.iter().flat_map(|(_, cell)| row.iter().map(cell));
+        text += &line(&[keys.clone()].into_iter().chain(cells).collect::<Vec<_>>());
     }
     text
 }

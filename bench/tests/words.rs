@@ -4,7 +4,7 @@ use bench::clock::timed;
 use bench::engines::KINDS;
 use bench::options::{Options, SIZES};
 use bench::places::Written;
-use bench::report::{figures, grouped, written};
+use bench::report::{by_threshold, figures, grouped, written};
 use bench::rounds::Measure;
 use std::hint::black_box;
 use std::thread::sleep;
@@ -22,7 +22,8 @@ fn options_are_read() {
         (all.seed, all.rounds, all.sizes, all.only.len()),
         (1, 7, SIZES.to_vec(), KINDS.len())
     );
-    assert!(all.check && all.written && all.measures == Measure::ALL);
+    assert!(all.check && all.written && all.by_threshold && all.measures == Measure::ALL);
+    assert_eq!(all.thresholds, [1, 4, 8]);
     let quick = options("--quick --seed=5").unwrap();
     assert_eq!((quick.seed, quick.rounds, quick.sizes), (5, 3, vec![SIZES[1]]));
     let one =
@@ -32,6 +33,10 @@ fn options_are_read() {
         (vec!["lmdb".into(), "zilgwern".into()], vec![Measure::Scan])
     );
     assert_eq!((one.check, one.written, one.sizes, one.rounds), (true, false, vec![SIZES[0]], 2));
+    assert!(!one.by_threshold);
+    let counted = options("--measure threshold --thresholds 8,2").unwrap();
+    assert_eq!((counted.by_threshold, counted.check, counted.written), (true, false, false));
+    assert_eq!((counted.thresholds, counted.measures), (vec![8, 2], vec![]));
 }
 
 #[test]
@@ -43,6 +48,9 @@ fn wrong_words_are_named() {
         ("--places 100", "100"),
         ("--only lmdb,rocks", "rocks"),
         ("--measure get", "get"),
+        ("--thresholds 1,9", "9"),
+        ("--thresholds 0", "0"),
+        ("--thresholds 1,,8", "whole number"),
     ] {
         let error = options(words).unwrap_err();
         assert!(error.contains(named), "{words}: {error}");
@@ -66,6 +74,15 @@ fn a_table_is_markdown() {
     let lines: Vec<&str> = table.lines().collect();
     assert_eq!(lines[1], "|---|---|---|---|---|---|");
     assert_eq!(lines[2], "| uniform | lower | 0.250 | 4.00 | 5 | 1.50 |");
+    let other = Written { places: 4, tidies: 1, most: 3, ..counted };
+    let table = by_threshold(&[1, 8], &[("skewed".into(), vec![counted, other])]);
+    let lines: Vec<&str> = table.lines().collect();
+    let titles: Vec<&str> = lines[0].trim_end_matches(" |").split(" | ").skip(1).collect();
+    let each = |what: &str| [1, 8].map(|threshold| format!("{what}, T = {threshold}"));
+    let columns = ["places written for each put", "most by one step", "steps for each flush"];
+    assert_eq!(titles, columns.map(each).concat());
+    assert_eq!(lines[1], "|---|---|---|---|---|---|---|");
+    assert_eq!(lines[2], "| skewed | 0.250 | 0.125 | 5 | 3 | 1.50 | 0.50 |");
 }
 
 #[test]

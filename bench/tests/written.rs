@@ -5,6 +5,7 @@ use bench::engines::Second;
 use bench::lists::Listed;
 use bench::places::{Steps, Watched, Written};
 use bench::proved::Proved;
+use bench::thresholds::{count, KEYS_A_PLACE};
 use bench::upper::Upper;
 use bench::workload::{Key, Put, Workload};
 use reference::limits::VALUE_BYTES;
@@ -42,8 +43,26 @@ fn lower_level_driven_writes_less() {
         assert_eq!(lower, second);
         assert_eq!((lower.puts, lower.flushes), (upper.puts, upper.flushes));
         assert!(lower.places < upper.places && lower.most < upper.most, "{lower:?} {upper:?}");
-        // A merge takes a table of 16 and four slices of at most 16, so it comes to five tables at most.
-        assert!(lower.most <= 5, "{lower:?}");
+        // Before the last link the others weigh less than their table, which has 16 at most. So a merge takes 16, 15 and 16
+        // entries at most: three tables.
+        assert!(lower.most <= 3, "{lower:?}");
+    }
+}
+
+/// The area and the replies say the same for each threshold; and a threshold has its effect: more links before a merge are fewer
+/// merges, so fewer steps and fewer places.
+#[test]
+fn counts_by_replies_are_those_found_in_the_area() {
+    for workload in workloads(256 * KEYS_A_PLACE) {
+        let counted = [1, 4, 8].map(|threshold| {
+            let store = || Listed::with_threshold(Proved, 256, threshold);
+            let counted = count(&mut store(), &workload.puts);
+            assert_eq!(counted, led(&mut store(), &workload.puts), "threshold {threshold}");
+            counted
+        });
+        let less =
+            |pair: &[Written]| pair[0].tidies > pair[1].tidies && pair[0].places > pair[1].places;
+        assert!(counted.windows(2).all(less), "{counted:?}");
     }
 }
 
@@ -68,16 +87,41 @@ fn places_are_counted_as_by_hand() {
     assert_eq!(upper.0.levels.each_ref().map(Vec::len), [2, 4, 0, 0]);
 }
 
+/// Sixteen puts of keys that rise by a hundred: so many from here on, the others from 10,000 further on.
+fn apart(from: Key, count: usize) -> Vec<Put> {
+    [&rising(from, 100)[..count], &rising(10_000 + from, 100)[count..]].concat()
+}
+
+/// Two tables on level 1 with sixteen keys each, from 0 and from 10,000 on, to which two others are linked after each other.
+fn linked_twice(store: &mut Listed<Proved>, others: [Vec<Put>; 2]) -> [Written; 2] {
+    let [third, fourth] = others;
+    // The oldest moves down.
+    let written = led(store, &[rising(0, 100), rising(10_000, 100), third].concat());
+    assert_eq!(written, Written { puts: 48, flushes: 3, tidies: 1, places: 3, most: 1 });
+    // The second is linked to it and weighs as much, so the merge is due: 32 entries in two tables.
+    let written = led(store, &fourth);
+    assert_eq!(written, Written { puts: 16, flushes: 1, tidies: 2, places: 1 + 2, most: 2 });
+    [20_000, 30_000].map(|from| led(store, &rising(from, 100)))
+}
+
 #[test]
 fn a_link_writes_no_place_and_a_merge_its_results() {
     let mut proved = Listed::new(Proved, 32);
-    // The oldest moves down; the four after it overlap it, and each is linked; the fourth link makes the merge due.
-    let tables: Vec<Vec<Put>> = (0..7).map(|number| rising(number, 100)).collect();
-    let written = led(&mut proved, &tables[..6].concat());
-    assert_eq!(written, Written { puts: 96, flushes: 6, tidies: 4, places: 6, most: 1 });
-    let written = led(&mut proved, &tables[6]);
-    // Flush, link, and a merge of 80 entries.
-    assert_eq!(written, Written { puts: 16, flushes: 1, tidies: 2, places: 1 + 5, most: 5 });
+    let written = linked_twice(&mut proved, [apart(1, 8), apart(2, 8)]);
+    // Eight entries on each table of sixteen: no merge.
+    assert_eq!(written[0], Written { puts: 16, flushes: 1, tidies: 1, places: 1, most: 1 });
+    // Sixteen on each: both are merged, 32 entries in two tables.
+    assert_eq!(written[1], Written { puts: 16, flushes: 1, tidies: 3, places: 1 + 2 + 2, most: 2 });
+}
+
+#[test]
+fn light_links_are_merged_at_the_threshold() {
+    let mut proved = Listed::with_threshold(Proved, 32, 2);
+    let written = linked_twice(&mut proved, [apart(1, 1), apart(2, 1)]);
+    // One entry on a table of sixteen, and fifteen: no merge.
+    assert_eq!(written[0], Written { puts: 16, flushes: 1, tidies: 1, places: 1, most: 1 });
+    // Two links on each: both are merged, 18 entries in two tables, and 46 in three.
+    assert_eq!(written[1], Written { puts: 16, flushes: 1, tidies: 3, places: 1 + 2 + 3, most: 3 });
 }
 
 #[test]

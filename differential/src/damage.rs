@@ -1,14 +1,14 @@
 //! Random damage to lent memory: what a worn drive or a wrong host could do to it.
 
-use reference::generate::damage::DAMAGES;
+use reference::generate::damage::{damages, Damage};
 use reference::generate::random::Random;
-use reference::lent::{Lent, HEAD_LENGTHS, ROW_COUNT, ROW_LINKS};
-use reference::limits::{ENTRY_BYTES, LEVELS, PLACE_BYTES, TABLE_HEAD};
+use reference::lent::*;
+use reference::limits::{CARD_LINKS, ENTRY_BYTES, LEVELS, PLACE_BYTES, TABLE_ENTRIES, TABLE_HEAD};
 
 /// One way to damage lent memory.
 type Blow = fn(&mut Lent, &mut Random);
 
-const BLOWS: [Blow; 13] = [
+const BLOWS: [Blow; 14] = [
     flip_in_area,
     flip_in_table_head,
     flip_in_row,
@@ -22,6 +22,7 @@ const BLOWS: [Blow; 13] = [
     retarget_link,
     widen_link,
     empty_link,
+    miscount_link,
 ];
 
 /// One to three blows to a sound store. The first may be one of the named damages, which ask for a sound store.
@@ -62,8 +63,9 @@ fn flip_in_row(lent: &mut Lent, random: &mut Random) {
     let place = random.below(places(lent));
     let (word, bit) = match random.below(3) {
         0 => (random.below(2), random.below(3)),
-        1 => (random.below(26), random.below(64)),
-        _ => (random.below(8), random.below(8)),
+        1 => (random.below(ROW_WORDS), random.below(64)),
+        // State, count and two links.
+        _ => (random.below(ROW_LINKS + 2 * LINK_WORDS), random.below(8)),
     };
     lent.cards[place][word] ^= 1 << bit;
 }
@@ -128,39 +130,46 @@ fn drop_list_item(lent: &mut Lent, random: &mut Random) {
 /// The row and the first word of a random link.
 fn some_link(lent: &Lent, random: &mut Random) -> Option<(usize, usize)> {
     let linked: Vec<usize> = (0..places(lent))
-        .filter(|&place| (1..=8).contains(&lent.cards[place][ROW_COUNT]))
+        .filter(|&place| (1..=CARD_LINKS as u64).contains(&lent.cards[place][ROW_COUNT]))
         .collect();
     if linked.is_empty() {
         return None;
     }
     let place = *random.pick(&linked);
     let link = random.below(lent.cards[place][ROW_COUNT] as usize);
-    Some((place, ROW_LINKS + 3 * link))
+    Some((place, ROW_LINKS + LINK_WORDS * link))
 }
 
 fn retarget_link(lent: &mut Lent, random: &mut Random) {
     if let Some((place, word)) = some_link(lent, random) {
-        lent.cards[place][word] = random.below(places(lent) + 2) as u64;
+        lent.cards[place][word + LINK_PLACE] = random.below(places(lent) + 2) as u64;
     }
 }
 
 fn widen_link(lent: &mut Lent, random: &mut Random) {
     if let Some((place, word)) = some_link(lent, random) {
-        let (low, high) = (lent.cards[place][word + 1], lent.cards[place][word + 2]);
-        lent.cards[place][word + 1] = low.saturating_sub(1 << random.below(40));
-        lent.cards[place][word + 2] = high.saturating_add(1 << random.below(40));
+        let link = &mut lent.cards[place][word..word + LINK_WORDS];
+        link[LINK_LOW] = link[LINK_LOW].saturating_sub(1 << random.below(40));
+        link[LINK_HIGH] = link[LINK_HIGH].saturating_add(1 << random.below(40));
     }
 }
 
 fn empty_link(lent: &mut Lent, random: &mut Random) {
     if let Some((place, word)) = some_link(lent, random) {
-        lent.cards[place][word + 2] =
-            lent.cards[place][word + 1].wrapping_sub(random.below(2) as u64);
+        lent.cards[place][word + LINK_HIGH] =
+            lent.cards[place][word + LINK_LOW].wrapping_sub(random.below(2) as u64);
+    }
+}
+
+/// Another number that a link might have, which is the right one at times.
+fn miscount_link(lent: &mut Lent, random: &mut Random) {
+    if let Some((place, word)) = some_link(lent, random) {
+        lent.cards[place][word + LINK_NUMBER] = random.below(TABLE_ENTRIES + 2) as u64;
     }
 }
 
 /// One of the damages that the second implementation's own tests know by name.
 pub fn named_damage(lent: &mut Lent, random: &mut Random) {
-    let damage = &DAMAGES[random.below(DAMAGES.len())];
-    (damage.plant)(lent, random);
+    let all: Vec<&Damage> = damages().collect();
+    (random.pick(&all).plant)(lent, random);
 }

@@ -13,8 +13,8 @@ use reference::generate::profile::{Source, PROFILES};
 use reference::generate::random::Random;
 use reference::generate::requests;
 use reference::implementation::Ran;
-use reference::lent::Lent;
-use reference::limits::{ANSWER_ROOM, VALUE_BYTES};
+use reference::lent::{Lent, Row, LINK_WORDS, ROW_COUNT, ROW_FREE, ROW_LINKS, ROW_WORDS};
+use reference::limits::{ANSWER_ROOM, CARD_LINKS, VALUE_BYTES};
 use reference::request::split;
 use reference::rules;
 use reference::run::{make, run};
@@ -112,7 +112,7 @@ fn arbitrary(tape: &mut Tape) -> Result<String, String> {
     let mut lent = Lent::zeroed(moved(16, tape.byte()) + usize::from(tape.byte() % 24));
     let (area, cards, lists) = (lent.area.len(), lent.cards.len(), lent.lists.len());
     lent.area.resize(moved(area, tape.byte()), 0);
-    lent.cards.resize(moved(cards, tape.byte()), [0; 26]);
+    lent.cards.resize(moved(cards, tape.byte()), ROW_FREE);
     lent.lists.resize(moved(lists, tape.byte()), 0);
     lent.head.fill_with(|| tape.word());
     lent.memory.fill_with(|| tape.byte());
@@ -172,11 +172,14 @@ fn damaged(tape: &mut Tape) -> Result<String, String> {
             0 => lent.area[place * 1024 + at % 1024] ^= bits,
             // The front of a place, where lengths and counts stand.
             1 => lent.area[place * 1024 + at % 40] ^= bits,
-            2 => lent.cards[place][at % 26] ^= u64::from(bits) << (at / 26 % 57),
+            2 => lent.cards[place][at % ROW_WORDS] ^= u64::from(bits) << (at / ROW_WORDS % 57),
             3 => lent.lists[at % (4 * lent.cards.len())] ^= u16::from(bits),
             4 => lent.head[at % 10] ^= u64::from(bits) << (at / 10 % 57),
             // The first two links of a card that has any.
-            5 => linked_card(&mut lent, place)[2 + at % 6] ^= u64::from(bits % 16),
+            5 => {
+                let word = ROW_LINKS + at % (2 * LINK_WORDS);
+                linked_card(&mut lent, place)[word] ^= u64::from(bits % 16);
+            }
             6 => take_last_link(linked_card(&mut lent, place)),
             _ => lent.memory[at % 1024] ^= bits,
         }
@@ -187,18 +190,18 @@ fn damaged(tape: &mut Tape) -> Result<String, String> {
 }
 
 /// The first card from this place on that has links, going round; this place's card where none has.
-fn linked_card(lent: &mut Lent, place: usize) -> &mut [u64; 26] {
+fn linked_card(lent: &mut Lent, place: usize) -> &mut Row {
     let count = lent.cards.len();
     let mut places = (place..place + count).map(|place| place % count);
-    let linked = places.find(|place| lent.cards[*place][1] > 0).unwrap_or(place);
+    let linked = places.find(|place| lent.cards[*place][ROW_COUNT] > 0).unwrap_or(place);
     &mut lent.cards[linked]
 }
 
 /// Takes the last link off a card that has any; its frozen place may be left without one.
-fn take_last_link(card: &mut [u64; 26]) {
-    if let count @ 1..=8 = card[1] as usize {
-        card[1] -= 1;
-        card[3 * count - 1..3 * count + 2].fill(0);
+fn take_last_link(card: &mut Row) {
+    if let count @ 1..=CARD_LINKS = card[ROW_COUNT] as usize {
+        card[ROW_COUNT] -= 1;
+        card[ROW_LINKS + LINK_WORDS * (count - 1)..][..LINK_WORDS].fill(0);
     }
 }
 

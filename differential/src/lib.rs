@@ -9,7 +9,7 @@ pub mod refused;
 
 use guarded::Guarded;
 use reference::implementation::{Implementation, Ran};
-use reference::lent::Lent;
+use reference::lent::{Lent, ROW_WORDS};
 use zilgwern_sys::{Head, Row, Table};
 
 /// The lent memory, each piece between guards.
@@ -25,7 +25,7 @@ impl Pieces {
     fn of(lent: &Lent) -> Pieces {
         Pieces {
             area: Guarded::of(&lent.area, 0xA5),
-            cards: Guarded::of(&lent.cards, [0xA5A5_A5A5_A5A5_A5A5; 26]),
+            cards: Guarded::of(&lent.cards, [0xA5A5_A5A5_A5A5_A5A5; ROW_WORDS]),
             lists: Guarded::of(&lent.lists, 0xA5A5),
             head: Guarded::of(&[lent.head], [0xA5A5_A5A5_A5A5_A5A5; 10]),
             memory: Guarded::of(&[lent.memory], [0xA5; 1024]),

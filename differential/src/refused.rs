@@ -6,7 +6,7 @@ use crate::Proved;
 use reference::generate::broken::BREAKAGES;
 use reference::generate::random::Random;
 use reference::implementation::{Implementation, Ran};
-use reference::lent::Lent;
+use reference::lent::{Lent, ROW_FREE};
 use reference::limits::ANSWER_ROOM;
 use reference::rules::{self, Rule};
 use reference::trial::{compare, UNTOUCHED};
@@ -21,7 +21,7 @@ pub const MISSHAPES: [Misshape; 9] = [
     ("a byte too many", |lent, _| lent.area.push(0)),
     ("a place too many", |lent, _| lent.area.extend([0; 1024])),
     ("a card too few", |lent, _| lent.cards.truncate(lent.cards.len() - 1)),
-    ("a card too many", |lent, _| lent.cards.push([0; 26])),
+    ("a card too many", |lent, _| lent.cards.push(ROW_FREE)),
     ("a list item too few", |lent, _| lent.lists.truncate(lent.lists.len() - 1)),
     ("a list item too many", |lent, _| lent.lists.push(0)),
     ("15 places", |lent, _| resize(lent, 15)),
@@ -31,7 +31,7 @@ pub const MISSHAPES: [Misshape; 9] = [
 /// All pieces as for so many places, one as good as the other.
 fn resize(lent: &mut Lent, places: usize) {
     lent.area.resize(1024 * places, 0);
-    lent.cards.resize(places, [0; 26]);
+    lent.cards.resize(places, ROW_FREE);
     lent.lists.resize(4 * places, 0);
 }
 

@@ -6,7 +6,7 @@ use reference::generate::keys::Keys;
 use reference::generate::planted::planted;
 use reference::generate::profile::{Source, PROFILES};
 use reference::generate::random::Random;
-use reference::lent::Lent;
+use reference::lent::{Lent, ROW_FREE};
 use reference::rules::{self, Rule};
 use reference::run::{make, run};
 use std::collections::BTreeMap;
@@ -94,7 +94,7 @@ fn wrong_sizes_are_number_1() {
     }
     for rows in [0, 19, 21] {
         let mut lent = sound.clone();
-        lent.cards.resize(rows, [0; 26]);
+        lent.cards.resize(rows, ROW_FREE);
         wrong.push(lent);
     }
     for items in [0, 20, 79, 81] {

@@ -10,6 +10,7 @@ use reference::generate::keys::Keys;
 use reference::generate::planted::planted;
 use reference::generate::profile::{Source, PROFILES};
 use reference::generate::random::Random;
+use reference::judge::met;
 use reference::reached::{required_of_requests, Reached, STOPS};
 use std::io::Write;
 use std::time::Instant;
@@ -92,7 +93,7 @@ const BEYOND_SMALL: [&str; 6] = [
 ];
 
 fn small_new_stores(seed: u64) {
-    let mut required = requests_but(&BEYOND_SMALL);
+    let mut required = requests_but(&[&met::BEYOND_NEW[..], &BEYOND_SMALL].concat());
     required.extend(all_thresholds("new"));
     required.extend((1..=STOPS).map(|position| format!("stopped after {position:>2}")));
     required.extend(BREAKAGES.iter().map(|(name, _)| format!("4 in a history: {name}")));
@@ -114,10 +115,10 @@ fn small_new_stores_from_seed_1000001() {
 
 #[test]
 fn middle_new_stores() {
-    let mut required = requests_but(&["merge without results"]);
+    let mut required = requests_but(&met::BEYOND_NEW);
     required.extend(all_thresholds("new"));
-    // A merge in place of a choice seldom wants more places than are free; it does from this seed on.
-    let tally = complete(&MIDDLE, 2_100_001, MIDDLE_REQUESTS, required);
+    // A merge in place of a choice is seldom on level 2 and seldom wants more places than are free; both come from this seed on.
+    let tally = complete(&MIDDLE, 2_000_041, MIDDLE_REQUESTS, required);
     assert!(sizes(&tally, "new") > 30);
 }
 

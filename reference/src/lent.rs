@@ -2,8 +2,8 @@
 
 use crate::limits::{CARD_LINKS, LEVELS, PLACES, PLACE_BYTES};
 
-/// One row of a card: state, link count, then place, low and high of eight links.
-pub type Row = [u64; 2 + 3 * CARD_LINKS];
+/// One row of a card: state, link count, then place, low, high and number of eight links.
+pub type Row = [u64; ROW_WORDS];
 
 /// Word of a row that holds the state.
 pub const ROW_STATE: usize = 0;
@@ -11,6 +11,17 @@ pub const ROW_STATE: usize = 0;
 pub const ROW_COUNT: usize = 1;
 /// First word of the links of a row.
 pub const ROW_LINKS: usize = 2;
+/// Words of a row.
+pub const ROW_WORDS: usize = ROW_LINKS + LINK_WORDS * CARD_LINKS;
+/// The row of a free place.
+pub const ROW_FREE: Row = [0; ROW_WORDS];
+
+/// Words of a link, and which of them is which.
+pub const LINK_WORDS: usize = 4;
+pub const LINK_PLACE: usize = 0;
+pub const LINK_LOW: usize = 1;
+pub const LINK_HIGH: usize = 2;
+pub const LINK_NUMBER: usize = 3;
 
 pub const STATE_FREE: u64 = 0;
 pub const STATE_LIVE: u64 = 1;
@@ -41,7 +52,7 @@ impl Lent {
     pub fn zeroed(places: usize) -> Lent {
         Lent {
             area: vec![0; places * PLACE_BYTES],
-            cards: vec![[0; 2 + 3 * CARD_LINKS]; places],
+            cards: vec![ROW_FREE; places],
             lists: vec![0; LEVELS * places],
             head: [0; HEAD_LENGTHS + LEVELS],
             memory: [0; PLACE_BYTES],
@@ -61,6 +72,13 @@ impl Lent {
     /// The bytes of one place.
     pub fn place(&self, place: usize) -> &[u8] {
         &self.area[place * PLACE_BYTES..][..PLACE_BYTES]
+    }
+
+    /// The links on a card, each as its words; of a count beyond a row's room only that many are there.
+    pub fn links(&self, place: usize) -> impl Iterator<Item = &[u64]> {
+        let row = &self.cards[place];
+        let count = row[ROW_COUNT].min(CARD_LINKS as u64) as usize;
+        row[ROW_LINKS..].chunks(LINK_WORDS).take(count)
     }
 
     /// The first difference to another image in words, for reports of failed tests.

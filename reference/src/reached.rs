@@ -1,6 +1,6 @@
 //! Named counters of what a test run reached; a run that missed one of them has shown too little.
 
-use crate::judge::{Deed, Followed};
+use crate::judge::{met, Deed, Followed, Trigger};
 use crate::limits::{REPLY_BYTES, VALUE_BYTES};
 use crate::slip::OLD_VALUE_BYTES;
 use std::collections::BTreeMap;
@@ -83,6 +83,7 @@ impl Reached {
         if let Some(deed) = followed.deed {
             self.follow_deed(deed);
         }
+        followed.met.iter().for_each(|name| self.count(*name));
     }
 
     fn follow_scan(&mut self, reply: &[u8]) {
@@ -116,6 +117,9 @@ impl Reached {
             }
             Deed::Merged { on, due, tables } => {
                 self.count(format!("{} on {on}", merge_name(due)));
+                if let Some(trigger) = due {
+                    self.count(trigger_name(trigger));
+                }
                 match tables {
                     0 => self.count("merge without results"),
                     1 => {}
@@ -133,10 +137,18 @@ impl Reached {
     }
 }
 
-fn merge_name(due: bool) -> &'static str {
+fn merge_name(due: Option<Trigger>) -> &'static str {
     match due {
-        true => "due merge",
-        false => "merge in place of a choice",
+        Some(_) => "due merge",
+        None => "merge in place of a choice",
+    }
+}
+
+fn trigger_name(trigger: Trigger) -> &'static str {
+    match trigger {
+        Trigger::Count => "due by count alone",
+        Trigger::Weight => "due by weight alone",
+        Trigger::Both => "due by count and weight",
     }
 }
 
@@ -176,6 +188,9 @@ pub fn required_of_requests() -> Vec<String> {
         (0..3).flat_map(|level| [format!("moved from {level}"), format!("linked from {level}")]),
     );
     names.extend((1..4).map(|level| format!("due merge on {level}")));
+    let triggers = [Trigger::Count, Trigger::Weight, Trigger::Both];
+    names.extend(triggers.map(|trigger| trigger_name(trigger).into()));
+    names.extend(met::ALL.map(String::from));
     names.extend((1..8).map(|kind| format!("kind {kind} done")));
     names
 }

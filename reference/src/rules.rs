@@ -54,6 +54,7 @@ struct RawLink {
     place: u64,
     low: Key,
     high: Key,
+    number: u64,
 }
 
 /// Lent memory of fitting sizes.
@@ -100,18 +101,20 @@ impl<'a> Image<'a> {
         (0..self.places).map(read).collect()
     }
 
-    /// The links of all listed tables, oldest first on each; a row has room for eight.
+    /// The links of all listed tables, oldest first on each.
     fn links(&self) -> Vec<RawLink> {
         let mut links = Vec::new();
         for level in 0..LEVELS {
             for item in self.list(level) {
                 let on = usize::from(*item);
-                let row = &self.lent.cards[on];
-                let count = row[ROW_COUNT].min(CARD_LINKS as u64) as usize;
-                for words in row[ROW_LINKS..].chunks(3).take(count) {
-                    let [place, low, high] = [words[0], words[1], words[2]];
-                    links.push(RawLink { on, level, place, low, high });
-                }
+                links.extend(self.lent.links(on).map(|words| RawLink {
+                    on,
+                    level,
+                    place: words[LINK_PLACE],
+                    low: words[LINK_LOW],
+                    high: words[LINK_HIGH],
+                    number: words[LINK_NUMBER],
+                }));
             }
         }
         links
@@ -150,16 +153,19 @@ impl<'a> Image<'a> {
             row[ROW_COUNT] == 0
         });
         few && level_0_bare
-            && links.iter().all(|link| self.holds_frozen_entry(link, tables))
+            && links.iter().all(|link| self.holds_its_number(link, tables))
             && slices_apart(links)
     }
 
-    /// Low is not above high, and the link names a frozen place with an entry in its range.
-    fn holds_frozen_entry(&self, link: &RawLink, tables: &[Shown]) -> bool {
-        let holds = |(key, _): &(Key, _)| (link.low..=link.high).contains(key);
-        link.place < self.places as u64
-            && self.state(link.place as usize) == STATE_FROZEN
-            && tables[link.place as usize].iter().any(holds)
+    /// Low is not above high, and the link names a frozen place with as many entries in its range as its number says, at least
+    /// one.
+    fn holds_its_number(&self, link: &RawLink, tables: &[Shown]) -> bool {
+        if link.place >= self.places as u64 || self.state(link.place as usize) != STATE_FROZEN {
+            return false;
+        }
+        let holds = |(key, _): &&(Key, _)| (link.low..=link.high).contains(key);
+        let held = tables[link.place as usize].iter().filter(holds).count();
+        held > 0 && link.number == held as u64
     }
 
     fn rule_f(&self, links: &[RawLink]) -> bool {
@@ -194,7 +200,7 @@ impl<'a> Image<'a> {
             marks.into_iter().all(|mark| mark[0] == 1 || (mark[0] == 0 && mark[1] == 0));
         let rows_fit = self.lent.cards.iter().all(|row| {
             let used = row[ROW_COUNT].min(CARD_LINKS as u64) as usize;
-            row[ROW_LINKS + 3 * used..].iter().all(|word| *word == 0)
+            row[ROW_LINKS + LINK_WORDS * used..].iter().all(|word| *word == 0)
         });
         let lists_fit = (0..LEVELS).all(|level| {
             let list = &self.lent.lists[level * self.places..][..self.places];

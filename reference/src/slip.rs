@@ -69,7 +69,7 @@ slips! {
     DueHighestLevelFirst,
     /// Of due merges on a level the one with the highest keys comes first.
     DueHighestKeysFirst,
-    /// A merge is due only above T links.
+    /// A merge is due by count only above T links.
     DueOneLinkLate,
     /// A level is above capacity when it has just reached it.
     CapacityReachedIsAbove,
@@ -137,4 +137,12 @@ slips! {
     LongEntryUnsound,
     /// A scan ends where its reply would be longer than it could be by the old limit.
     ScanEndsAtOldLength,
+
+    // Merge by weight (note 2).
+    /// A merge is due by weight only above the table's own entry count.
+    DueAboveOwnCount,
+    /// A link's number counts values alone, without delete marks.
+    NumberWithoutDeleteMarks,
+    /// Tables that are due by weight alone wait for all that are due by count.
+    DueByCountFirst,
 }

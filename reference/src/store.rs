@@ -6,12 +6,13 @@ use crate::rules::{check, Verdict};
 use crate::slip::Slip;
 use crate::table::{greatest, least, owned, read_table, table_bytes, Entries, Key};
 
-/// A slice link: a frozen place and a key range, both ends included.
+/// A slice link: a frozen place, a key range, both ends included, and the number of the place's entries in it.
 #[derive(Clone, PartialEq, Eq, Debug)]
 pub struct Link {
     pub place: usize,
     pub low: Key,
     pub high: Key,
+    pub number: usize,
 }
 
 impl Link {
@@ -165,15 +166,10 @@ fn read(bytes: &[u8], fewest: usize) -> Entries {
 }
 
 fn decode_place(lent: &Lent, place: usize) -> Place {
-    let row = &lent.cards[place];
-    match row[ROW_STATE] {
+    match lent.cards[place][ROW_STATE] {
         STATE_LIVE => Place::Live {
             table: read(lent.place(place), 1),
-            links: row[ROW_LINKS..]
-                .chunks(3)
-                .take(row[ROW_COUNT] as usize)
-                .map(decode_link)
-                .collect(),
+            links: lent.links(place).map(decode_link).collect(),
         },
         STATE_FROZEN => Place::Frozen { table: read(lent.place(place), 1) },
         _ => Place::Free,
@@ -181,19 +177,27 @@ fn decode_place(lent: &Lent, place: usize) -> Place {
 }
 
 fn decode_link(words: &[u64]) -> Link {
-    Link { place: words[0] as usize, low: words[1], high: words[2] }
+    Link {
+        place: words[LINK_PLACE] as usize,
+        low: words[LINK_LOW],
+        high: words[LINK_HIGH],
+        number: words[LINK_NUMBER] as usize,
+    }
 }
 
 fn encode_card(place: &Place) -> Row {
-    let mut row = Row::default();
+    let mut row = ROW_FREE;
     match place {
         Place::Free => row[ROW_STATE] = STATE_FREE,
         Place::Frozen { .. } => row[ROW_STATE] = STATE_FROZEN,
         Place::Live { links, .. } => {
             row[ROW_STATE] = STATE_LIVE;
             row[ROW_COUNT] = links.len() as u64;
-            for (words, link) in row[ROW_LINKS..].chunks_mut(3).zip(links) {
-                words.copy_from_slice(&[link.place as u64, link.low, link.high]);
+            for (words, link) in row[ROW_LINKS..].chunks_mut(LINK_WORDS).zip(links) {
+                words[LINK_PLACE] = link.place as u64;
+                words[LINK_LOW] = link.low;
+                words[LINK_HIGH] = link.high;
+                words[LINK_NUMBER] = link.number as u64;
             }
         }
     }

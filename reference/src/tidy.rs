@@ -3,7 +3,7 @@
 use crate::limits::{capacity, LEVELS};
 use crate::slip::Slip;
 use crate::store::{Link, Store};
-use crate::table::{greatest, least, Key};
+use crate::table::{greatest, least, Entries, Entry, Key};
 use std::cmp::Ordering;
 
 /// Why a table is merged.
@@ -69,8 +69,8 @@ impl Store {
         }
     }
 
-    /// Whether a merge of this table is due.
-    fn due(&self, place: usize) -> bool {
+    /// Whether a table has so many links that a merge is due.
+    fn due_by_count(&self, place: usize) -> bool {
         let links = self.live(place).1.len();
         if self.slips(Slip::DueOneLinkLate) {
             return links > self.threshold;
@@ -78,10 +78,32 @@ impl Store {
         links >= self.threshold
     }
 
+    /// Whether a table's links weigh so much that a merge is due. Without links they weigh nothing, and a table has an entry.
+    fn due_by_weight(&self, place: usize) -> bool {
+        let (table, links) = self.live(place);
+        let weight: usize = links.iter().map(|link| link.number).sum();
+        if self.slips(Slip::DueAboveOwnCount) {
+            return weight > table.len();
+        }
+        weight >= table.len()
+    }
+
+    /// Whether a merge of this table is due.
+    fn due(&self, place: usize) -> bool {
+        self.due_by_count(place) || self.due_by_weight(place)
+    }
+
     /// The due table of the lowest level number, there with the lowest keys.
     fn due_merge(&self) -> Option<(usize, usize)> {
+        let mut all = self.levels.iter().flatten();
+        let count_first =
+            self.slips(Slip::DueByCountFirst) && all.any(|place| self.due_by_count(*place));
+        let is_due = |place: &&usize| match count_first {
+            true => self.due_by_count(**place),
+            false => self.due(**place),
+        };
         let in_level = |level: usize| {
-            let mut due = self.levels[level].iter().filter(|place| self.due(**place));
+            let mut due = self.levels[level].iter().filter(is_due);
             let found =
                 if self.slips(Slip::DueHighestKeysFirst) { due.next_back() } else { due.next() };
             found.map(|place| (level, *place))
@@ -156,8 +178,20 @@ impl Store {
             self.slips(Slip::LinksWithoutEntries) || table.keys().any(|key| link.holds(*key))
         };
         let ranges = self.responsibilities(below).into_iter();
-        let links = ranges.map(|(on, low, high)| (on, Link { place: chosen, low, high }));
+        let links = ranges.map(|(on, low, high)| {
+            let number = self.number(table, low, high);
+            (on, Link { place: chosen, low, high, number })
+        });
         links.filter(has_entry).collect()
+    }
+
+    /// How many entries of a table lie in a range; delete marks count, and so do entries that a newer one hides.
+    fn number(&self, table: &Entries, low: Key, high: Key) -> usize {
+        let values_alone = self.slips(Slip::NumberWithoutDeleteMarks);
+        let counts = |(key, entry): &(&Key, &Entry)| {
+            (low..=high).contains(*key) && (entry.value().is_some() || !values_alone)
+        };
+        table.iter().filter(counts).count()
     }
 
     /// For each table of a level the range of keys that it is responsible for: together all keys.

@@ -1,4 +1,4 @@
-//! The file that keeps a store between calls: the plain bytes of what is lent, and nothing else.
+//! The file that keeps a store between calls: the plain bytes of what is lent, and their form.
 
 use crate::failure::Failure;
 use crate::options::Options;
@@ -49,7 +49,7 @@ impl StoreFile {
         let store = opened.and_then(Store::open_owned).map_err(|error| {
             let failure = Failure::from(error).at(name);
             match error.number() {
-                1 => failure.hinted(length_words(kept.len())),
+                1 => failure.hinted(form_words(&kept)),
                 _ => failure,
             }
         })?;
@@ -104,6 +104,21 @@ impl StoreFile {
 pub fn same_file(one: &str, other: &str) -> bool {
     let file = |name: &str| fs::metadata(name).ok().map(|found| (found.dev(), found.ino()));
     file(one).is_some_and(|found| file(other) == Some(found))
+}
+
+/// What is wrong with a file that has another form or length.
+fn form_words(bytes: &[u8]) -> String {
+    let is_whole = |places: usize| Memory::byte_count(places) == bytes.len();
+    match bytes {
+        _ if Memory::is_form_1(bytes) => "It is a store file of the first form, from before links had numbers, and can't be \
+             opened. Print its values with `scan` of the surveyctl that wrote it, and put them into a new store. Nothing was \
+             changed."
+            .into(),
+        _ if PLACES.clone().any(is_whole) => "It has the length of a store file, but its last eight bytes, which say the form, \
+             are others. Nothing was changed."
+            .into(),
+        _ => length_words(bytes.len()),
+    }
 }
 
 /// What is wrong with a file of this length.

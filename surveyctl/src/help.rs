@@ -1,6 +1,6 @@
 //! The help texts: one for all, one for each command.
 
-use zilgwern::VALUE_BYTES;
+use zilgwern::{Memory, VALUE_BYTES};
 
 pub const GREETING: &str = "\
 The van's survey store. `help` lists the commands, `quit` ends.
@@ -39,7 +39,8 @@ Options, before the command:
   -s, --store FILE     the file that keeps the store; without it, a new store
                        that is forgotten at the end
       --places N       places of a new store, 16 to 4096 (32)
-      --threshold N    links that make a merge due in a new store, 1 to 8 (4)
+      --threshold N    links that make a merge due in a new store, 1 to 8 (4);
+                       fewer do that hold as many entries as their table
       --whole-keys     print keys as whole numbers
   -h, --help           this text, or that of the command
   -V, --version        the version
@@ -128,7 +129,9 @@ tidy
 tidy all
 
 One step of compaction: a table moved down, linked down, or merged; the level
-is the one that it stood on. `tidy all` goes on until there is nothing to do.
+is the one that it stood on. A merge comes first where one is due: of a table
+with as many links as the threshold says, or with links that weigh at least as
+many entries as it has itself. `tidy all` goes on until there is nothing to do.
 Refused by 20 where a merge wants more places than are free.
 ",
     ),
@@ -156,8 +159,9 @@ show [--ascii] [--svg FILE]
 
 Draws the levels, the tables with their spans of keys, links and frozen places;
 with --svg as a picture into FILE (- is standard output). Bars go by the order
-of the keys that are there, each key as wide as the next. At the prompt and in
-scripts: `show` alone.
+of the keys that are there, each key as wide as the next. Numbers are entries;
+5/16 says that a table's links weigh 5 and that it has 16 itself. At the prompt
+and in scripts: `show` alone.
 
   surveyctl --store van.store show --svg van.svg
 ",
@@ -168,8 +172,9 @@ scripts: `show` alone.
 surveyctl --store FILE [--places N] [--threshold N] new
 
 Makes a store in a file that does not exist yet. The file is the plain bytes of
-what is lent and nothing else: area, cards, level lists, head, memory table;
-numbers little-endian. Each place takes 1,240 bytes of it, the rest 1,104.
+what is lent: area, cards, level lists, head, memory table, and then a word
+that says the form, 2; numbers little-endian. Each place takes {EACH} bytes of
+it, the rest {FIXED}.
 
   surveyctl --store van.store --places 64 --threshold 2 new
 ",
@@ -267,7 +272,12 @@ pub fn in_prompt(topic: &str) -> Option<String> {
     Some(filled(&format!("{commands}{more}{forms}")))
 }
 
-/// A text with the limit that it names as a number.
+/// A text with the limits that it names as numbers.
 fn filled(text: &str) -> String {
-    text.replace("{VALUE_BYTES}", &VALUE_BYTES.to_string())
+    let fixed = Memory::byte_count(0);
+    let each = Memory::byte_count(1) - fixed;
+    let numbers = [("{VALUE_BYTES}", VALUE_BYTES), ("{EACH}", each), ("{FIXED}", fixed)];
+    numbers
+        .iter()
+        .fold(text.into(), |text: String, (name, number)| text.replace(name, &number.to_string()))
 }

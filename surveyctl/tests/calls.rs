@@ -103,7 +103,7 @@ fn files_that_can_not_be_used_have_status_4() {
 fn what_is_done_is_kept_in_the_file_and_nowhere_else() {
     let folder = with_store("kept");
     let new = folder.read("s");
-    assert_eq!(new.len(), 16 * 1240 + 1104);
+    assert_eq!(new.len(), 16 * 1304 + 1112);
     assert_eq!(folder.done(&["-s", "s", "put", "12", "3.450", "long", "crack"]), "done\n");
     assert_ne!(folder.read("s"), new);
     assert_eq!(folder.done(&["-s", "s", "get", "12", "3.450"]), "long crack\n");
@@ -159,11 +159,12 @@ fn tidy_all_goes_on_until_there_is_nothing_to_do() {
     let lines: String = (1..=5).map(|key| format!("put {key} v\nflush\n")).collect();
     folder.call_with(&["-s", "s", "script"], lines.as_bytes());
     assert_eq!(folder.done(&["-s", "s", "tidy"]), "moved a table down, level 0\n");
-    assert_eq!(folder.done(&["-s", "s", "tidy", "all"]), "moved 0, linked 2, merged 0\n");
+    // The first link weighs as much as the table of one entry, so that is merged; the second hangs on a table of two.
+    assert_eq!(folder.done(&["-s", "s", "tidy", "all"]), "moved 0, linked 2, merged 1\n");
     assert_eq!(folder.done(&["-s", "s", "tidy", "all"]), "nothing to do\n");
     assert_eq!(folder.done(&["-s", "s", "tidy"]), "nothing to do\n");
     let report =
-        "free 11, live on levels 0 to 3: 2, 1, 0, 0, frozen 2, links 2, memory entries 0\n";
+        "free 12, live on levels 0 to 3: 2, 1, 0, 0, frozen 1, links 1, memory entries 0\n";
     assert_eq!(folder.done(&["-s", "s", "report"]), report);
     assert_eq!(folder.done(&["-s", "s", "check"]), "sound\n");
 }

@@ -5,11 +5,13 @@ mod common;
 use common::{Came, Folder};
 use zilgwern::Rule;
 
-/// Where the pieces of a file of 16 places begin.
+/// The bytes of a card, and where the pieces of a file of 16 places begin.
+const CARD: usize = 8 * 34;
 const CARDS: usize = 16 * 1024;
-const LISTS: usize = CARDS + 16 * 208;
+const LISTS: usize = CARDS + 16 * CARD;
 const HEAD: usize = LISTS + 4 * 16 * 2;
 const MEMORY: usize = HEAD + 80;
+const FORM: usize = MEMORY + 1024;
 
 /// A store of 16 places with a link: place 0 on level 1 holds keys of place 1, which is frozen.
 fn linked(name: &str) -> (Folder, Vec<u8>) {
@@ -19,19 +21,21 @@ fn linked(name: &str) -> (Folder, Vec<u8>) {
     folder.call_with(&["--store", "s", "script"], format!("{lines}tidy\ntidy\n").as_bytes());
     let bytes = folder.read("s");
     assert_eq!(
-        (bytes[CARDS], bytes[CARDS + 8], bytes[CARDS + 16], bytes[CARDS + 208]),
+        (bytes[CARDS], bytes[CARDS + 8], bytes[CARDS + 16], bytes[CARDS + CARD]),
         (1, 1, 1, 2)
     );
+    // Number of the link, and form.
+    assert_eq!((bytes[CARDS + 40], &bytes[FORM..]), (1, &[2, 0, 0, 0, 0, 0, 0, 0][..]));
     (folder, bytes)
 }
 
 /// Damage with its name, and the one rule that it breaks, whose letter must come.
 type Damage = (Rule, &'static str, fn(&mut [u8]));
 
-const DAMAGES: [Damage; 12] = [
+const DAMAGES: [Damage; 14] = [
     (Rule::A, "threshold 9", |bytes| bytes[HEAD] = 9),
     (Rule::A, "cursor 16", |bytes| bytes[HEAD + 8] = 16),
-    (Rule::B, "a live place in no list", |bytes| bytes[CARDS + 9 * 208] = 1),
+    (Rule::B, "a live place in no list", |bytes| bytes[CARDS + 9 * CARD] = 1),
     (Rule::B, "a place that is neither free, live nor frozen", |bytes| bytes[CARDS] = 3),
     (Rule::B, "a list item that names no place", |bytes| bytes[LISTS] = 16),
     (Rule::C, "a table of another kind", |bytes| bytes[2] = 33),
@@ -41,8 +45,10 @@ const DAMAGES: [Damage; 12] = [
         bytes[CARDS + 24] = 1;
         bytes[CARDS + 32..CARDS + 40].fill(0);
     }),
-    (Rule::F, "a frozen place without a link", |bytes| bytes[CARDS + 8..CARDS + 40].fill(0)),
-    (Rule::G, "a word of a card beyond its links", |bytes| bytes[CARDS + 207] = 1),
+    (Rule::E, "a link whose number is not that of its entries", |bytes| bytes[CARDS + 40] = 2),
+    (Rule::F, "a frozen place without a link", |bytes| bytes[CARDS + 8..CARDS + 48].fill(0)),
+    (Rule::G, "a number of a link that is none", |bytes| bytes[CARDS + 72] = 1),
+    (Rule::G, "a word of a card beyond its links", |bytes| bytes[CARDS + CARD - 1] = 1),
     (Rule::G, "the key of a mark that is none", |bytes| bytes[HEAD + 24] = 1),
 ];
 
@@ -78,16 +84,50 @@ fn each_rule_is_told_by_its_letter_and_its_text() {
 fn files_of_a_wrong_length_are_number_1() {
     let (folder, sound) = linked("lengths");
     let more = [&sound[..], &[0]].concat();
-    let fifteen = vec![0; 15 * 1240 + 1104];
+    let fifteen = vec![0; 15 * 1304 + 1112];
     for bytes in [&sound[..sound.len() - 1], &more, &[], b"text", &fifteen] {
         folder.write("s", bytes);
         let Came { status, err, .. } = folder.call(&["--store", "s", "report"]);
         assert_eq!(status, 3);
         assert!(err.starts_with("surveyctl: s: refused, 1: "), "{err}");
         let words: Vec<&str> = err.split_whitespace().collect();
-        let told = format!("and 1104 more; this one has {}.", bytes.len());
+        let told = format!("and 1112 more; this one has {}.", bytes.len());
         assert!(words.join(" ").contains(&told), "{err}");
         assert_eq!(folder.read("s"), bytes);
+    }
+}
+
+/// A new store of the first form: rows of 26 words, and nothing behind the memory table.
+fn first_form(places: usize) -> Vec<u8> {
+    let mut bytes = vec![0; places * (1024 + 26 * 8 + 8)];
+    bytes.extend([[4, 0, 0, 0, 0, 0, 0, 0], [0; 8]].concat());
+    bytes.extend([0; 64]);
+    bytes.extend([8, 0, 32, 0]);
+    bytes.extend([0; 1020]);
+    bytes
+}
+
+#[test]
+fn files_of_another_form_are_told_and_left_as_they_are() {
+    let (folder, sound) = linked("forms");
+    let mut later = sound.clone();
+    later[FORM] = 3;
+    let first = "It is a store file of the first form, from before links had numbers,";
+    let other = "its last eight bytes, which say the form, are others.";
+    // 61 places of the first form are as long as 58 of this one, 163 as long as 155 and eight bytes less.
+    let files = [(first_form(16), first), (first_form(61), first), (first_form(163), first)];
+    assert_eq!((files[0].0.len(), files[1].0.len()), (16 * 1240 + 1104, 58 * 1304 + 1112));
+    for (bytes, told) in files.into_iter().chain([(later, other)]) {
+        folder.write("s", &bytes);
+        for words in [&["report"][..], &["put", "9", "v"], &["check"]] {
+            let Came { status, out, err } = folder.call(&[&["--store", "s"], words].concat());
+            assert_eq!((status, out.as_str()), (3, ""), "{err}");
+            assert!(err.starts_with("surveyctl: s: refused, 1: "), "{err}");
+            let words: Vec<&str> = err.split_whitespace().collect();
+            assert!(words.join(" ").contains(told), "{err}");
+            assert!(words.join(" ").ends_with("Nothing was changed."), "{err}");
+            assert!(folder.read("s") == bytes, "the file was changed");
+        }
     }
 }
 

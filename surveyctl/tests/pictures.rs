@@ -18,23 +18,24 @@ fn small(name: &str) -> Folder {
 #[test]
 fn the_picture_in_text() {
     let folder = small("text");
-    // Seven keys share the 32 columns; a bar begins and ends with the columns that its keys touch.
+    // Seven keys share the 30 columns; a bar begins and ends with the columns that its keys touch.
     let expected = "\
 16 places: 12 free, 3 live, 1 frozen; 1 link
 threshold 1, cursor 4
 
-memory          1  ..................#####.........  50 to 50
+memory            1  .................#####........  50 to 50
 level 0: 2 tables (capacity 2), oldest first
-  place 2       1  ......................######....  12 1.000 to 1.000
-  place 3       1  ...........................#####  12 2.000 to 2.000
+  place 2         1  .....................#####....  12 1.000 to 1.000
+  place 3         1  .........................#####  12 2.000 to 2.000
 level 1: 1 table (capacity 8); merge due: place 0
-  place 0       2  ###################.............  10 to 40
-  + place 1     2  ================================  0 to last
+  place 0       2/2  ##################............  10 to 40
+  + place 1       2  ==============================  0 to last
 level 2: 0 tables (capacity 32)
 level 3: 0 tables
 frozen, linked from level 1: 1 table
-  place 1       2  ....==========..................  20 to 30
+  place 1         2  ....=========.................  20 to 30
 entries: # a table's own keys, = the slice of a link, - merged already
+n/m: m own entries, n in links; a merge is due at 1 link, or at m/m or more
 places: . free, 0 to 3 live on that level, f frozen
      0  1f00............
 ";
@@ -58,12 +59,49 @@ fn tags(svg: &str) -> Vec<&str> {
 #[test]
 fn links_stand_newest_first_as_they_are_read() {
     let folder = Folder::new("links");
-    let tables: String = (1..=5).map(|key| format!("put {key} v\nflush\n")).collect();
-    let came = folder.call_with(&[], format!("{tables}tidy all\nshow\n").as_bytes());
+    // Sixteen keys, so that the links do not weigh as much.
+    let first: String = (10..26).map(|key| format!("put {key} v\n")).collect();
+    let others: String = (1..=4).map(|key| format!("put {key} v\nflush\n")).collect();
+    let lines = format!("{first}flush\n{others}tidy all\nshow\n");
+    let came = folder.call_with(&[], lines.as_bytes());
     let links: Vec<&str> = came.out.lines().filter(|line| line.contains("└ place")).collect();
     assert_eq!(links.len(), 2);
     assert!(links[0].contains("place 2 ") && links[1].contains("place 1 "), "{links:?}");
-    assert!(!came.out.contains("merge due"));
+    assert!(came.out.contains("  place 0      2/16  "), "{}", came.out);
+    assert!(!came.out.contains("merge due:"), "{}", came.out);
+}
+
+/// Fewer links than the threshold, of one and of two entries, on a table of three.
+#[test]
+fn a_merge_is_due_by_weight() {
+    let folder = Folder::new("weight");
+    folder.done(&["--store", "s", "--places", "16", "new"]);
+    let tables = [vec![10, 20, 30], vec![15], vec![12, 25], vec![40], vec![50]];
+    let table = |keys: &Vec<u32>| -> String {
+        keys.iter().map(|key| format!("put {key} v\n")).chain(["flush\n".into()]).collect()
+    };
+    let lines: String = tables.iter().map(table).collect();
+    let show = |lines: String| {
+        let came = folder.call_with(&["--store", "s", "script"], lines.as_bytes());
+        assert_eq!(came.status, 0, "{}", came.err);
+        folder.done(&["--store", "s", "show", "--ascii"])
+    };
+    let light = show(format!("{lines}tidy\ntidy\n"));
+    assert!(light.contains("  place 0       1/3  ") && !light.contains("merge due:"), "{light}");
+    let heavy = show("tidy\n".into());
+    assert!(heavy.contains("level 1: 1 table (capacity 8); merge due: place 0\n"), "{heavy}");
+    for row in ["  place 0       3/3  ", "  + place 2       2  ", "  + place 1       1  "] {
+        assert!(heavy.contains(row), "{heavy}");
+    }
+    let svg = folder.done(&["--store", "s", "show", "--svg", "-"]);
+    let tip = "merge due: 3 entries, 10 to 30; its 2 links weigh 3 against 3<";
+    let slices = ["class=\"slice\">1<", "class=\"slice\">2<"];
+    for words in [tip, ">0: 3/3<"].iter().chain(&slices) {
+        assert!(svg.contains(words), "{words}");
+    }
+    assert_eq!(folder.done(&["--store", "s", "tidy"]), "merged a table, level 1\n");
+    let merged = folder.done(&["--store", "s", "show", "--ascii"]);
+    assert!(!merged.contains("merge due:") && merged.contains("; 0 links\n"), "{merged}");
 }
 
 #[test]
@@ -85,7 +123,7 @@ fn the_picture_as_an_svg() {
     for tip in [
         "memory: 1 entry, 50 to 50",
         "place 2, level 0: 1 entry, 12 1.000 to 1.000",
-        "place 0, level 1, merge due: 2 entries, 10 to 40",
+        "place 0, level 1, merge due: 2 entries, 10 to 40; its link weighs 2 against 2",
         "place 1, frozen: 2 entries, 20 to 30",
         "link of place 0 to place 1: 2 entries, 0 to last",
         "place 1: frozen",
@@ -126,7 +164,8 @@ fn reach(svg: &str, tip: &str) -> (f64, f64) {
 fn lines_begin_at_frozen_tables() {
     let folder = Folder::new("lines");
     folder.done(&["--store", "s", "--places", "16", "new"]);
-    let tables = [vec![10, 11], vec![1, 2], vec![3, 4], vec![5, 6], vec![20, 21, 22, 23, 24]];
+    let first = vec![10, 11, 12, 13, 14];
+    let tables = [first, vec![1, 2], vec![3, 4], vec![5, 6], vec![20, 21, 22, 23, 24]];
     let table = |keys: &Vec<u32>| -> String {
         keys.iter().map(|key| format!("put {key} v\n")).chain(["flush\n".into()]).collect()
     };

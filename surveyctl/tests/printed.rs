@@ -128,7 +128,7 @@ fn the_examples_of_the_help_texts_are_understood() {
         }
     }
     folder.shell("surveyctl --store van.store --places 64 --threshold 2 new");
-    assert_eq!(folder.read("van.store").len(), 64 * 1240 + 1104);
+    assert_eq!(folder.read("van.store").len(), 64 * 1304 + 1112);
     assert_eq!(folder.shell("surveyctl --store van.store show --svg van.svg"), "");
     assert!(folder.path("van.svg").exists());
 }

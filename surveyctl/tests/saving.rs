@@ -147,5 +147,5 @@ fn a_device_without_end_is_no_store() {
     let Came { status, err, .. } = folder.call(&["-s", "/dev/zero", "check"]);
     assert_eq!(status, 3, "{err}");
     let words: Vec<&str> = err.split_whitespace().collect();
-    assert!(words.join(" ").contains("this one has more than 5080144."), "{err}");
+    assert!(words.join(" ").contains("this one has more than 5342296."), "{err}");
 }

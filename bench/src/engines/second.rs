@@ -1,6 +1,6 @@
 //! The second implementation: the same lists over the same memory.
 
-use crate::lists::{Runner, THRESHOLD};
+use crate::lists::Runner;
 use reference::implementation::{Implementation, Reference};
 use reference::lent::Lent;
 
@@ -9,9 +9,9 @@ pub struct Second;
 impl Runner for Second {
     const NAME: &'static str = "second";
 
-    fn make(places: usize) -> Lent {
+    fn make(places: usize, threshold: u64) -> Lent {
         let mut lent = Lent::zeroed(places);
-        let number = Reference::default().make(&mut lent, THRESHOLD);
+        let number = Reference::default().make(&mut lent, threshold);
         assert_eq!(number, 0, "{}: making a store", Self::NAME);
         lent
     }

@@ -53,7 +53,7 @@ frozen-state row =
 
 -- What stands where there is no link.
 abbrev pub noLink : Link
-noLink = record { place = 0; low = 0; high = 0 }
+noLink = record { place = 0; low = 0; high = 0; number = 0 }
 
 linksAt-at : (n : ℕ) (row : List ℕ) (at i : ℕ) (d : Link) → i < n → getD (linksAt n row at) i d ≡ linkFrom row (at + linkSize * i)
 linksAt-at zero row at i d h = absurd (omega arith)
@@ -137,11 +137,14 @@ length-words : (ls : List Link) → length (linkWords ls) ≡ linkSize * length 
 length-words [] = refl
 length-words (l ∷ ls) = let r = length-words ls in omega arith
 
--- The four stores that add a link.
+-- The stores that add a link: its words, and the count.
 pub link-stored : (row : List ℕ) (l : Link) → let at : ℕ = linkStart (linkCount row) in
-    set (set (set (set row at (l .place)) (at + 1) (l .low)) (at + 2) (l .high)) 1 (linkCount row + 1) ≡ linkAdded l row
+    set (set (set (set (set row at (l .place)) (at + 1) (l .low)) (at + 2) (l .high)) (at + 3) (l .number)) 1 (linkCount row + 1) ≡ linkAdded l row
 unfolding linkAdded
-link-stored row l = rw (add-one (linkStart (linkCount row)), add-two (linkStart (linkCount row)))
+link-stored row l =
+    let at : ℕ = linkStart (linkCount row) in
+    let three : at + 3 ≡ suc (suc (suc at)) = omega arith in
+    rw (add-one at, add-two at, three)
 
 -- A link put behind the last of a live row is behind the last of its card.
 pub link-added : (ls : List Link) (l : Link) → length ls < linkLimit → linkAdded l (rowOf (live ls)) ≡ rowOf (live (ls ++ l ∷ []))

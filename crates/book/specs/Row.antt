@@ -11,7 +11,7 @@ use Rattle.book.specs.declared.row.Link as words
 
 -- The link that a value of the code is.
 abbrev pub theLink : words.Link → Link
-theLink l = record { place = l .place; low = l .low .value; high = l .high .value }
+theLink l = record { place = l .place; low = l .low .value; high = l .high .value; number = l .number }
 
 -- The links of a row: none where it is not live.
 unfoldable pub linksIn : List ℕ → List Link

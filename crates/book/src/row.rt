@@ -1,5 +1,5 @@
-// A place's card as a row of words: state, link count, then place, low and high of each link. Rows are read and written here by their words,
-// and everywhere else by these functions.
+// A place's card as a row of words: state, link count, then place, low, high and number of each link. Rows are read and written here
+// by their words, and everywhere else by these functions.
 ghost use mathlib.Core.Path.{_≡_};
 ghost use mathlib.Core.List.{[]};
 ghost use Prim.Native.Nat.{_≤_, _<_};
@@ -10,17 +10,18 @@ ghost use Rattle.book.specs.Row.{theLink, linksIn, linkAdded, bareCard};
 use super::limits::LINK_LIMIT;
 use coding::key::Key;
 
-// A slice link: a frozen place and a key range, both ends included.
+// A slice link: a frozen place, a key range, both ends included, and the number of the place's entries in that range.
 pub struct Link {
     pub place: usize,
     pub low: Key,
     pub high: Key,
+    pub number: u64,
 }
 
 // The words before the links, and those of one link.
 pub const ROW_HEAD: usize = 2;
 
-pub const LINK_WORDS: usize = 3;
+pub const LINK_WORDS: usize = 4;
 
 pub const ROW_WORDS: usize = ROW_HEAD + LINK_WORDS * LINK_LIMIT;
 
@@ -34,6 +35,8 @@ pub const COUNT: usize = 1;
 pub const LOW: usize = 1;
 
 pub const HIGH: usize = 2;
+
+pub const NUMBER: usize = 3;
 
 // The states of a place.
 pub const FREE: u64 = 0;
@@ -113,6 +116,7 @@ pub fn link_at(row: &Row, i: usize) -> Link
         high: Key {
             value: row[at + HIGH],
         },
+        number: row[at + NUMBER],
     }
 }
 
@@ -137,6 +141,7 @@ pub fn add_link(cards: &mut [Row], p: usize, link: Link)
     row[at] = link.place as u64;
     row[at + LOW] = link.low.value;
     row[at + HIGH] = link.high.value;
+    row[at + NUMBER] = link.number;
     row[COUNT] = (n + 1) as u64;
     cards[p] = row;
 }

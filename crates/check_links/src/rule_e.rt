@@ -1,12 +1,13 @@
 // Rule E: links hang only on levels 1 to 3, at most T a table; low is not above high; each names a frozen place and holds at least
-// one of its entries; links naming one place share no key and hang on one level (the last part is in `apart`).
+// one of its entries; its number is that of the place's entries in its range; links naming one place share no key and hang on one level
+// (the last part is in `apart`).
 ghost use mathlib.Core.Path.{_≡_};
-ghost use mathlib.Core.Bool.{true, not};
+ghost use mathlib.Core.Bool.{true, not, _&&_};
+ghost use lib.Dec.{eqb};
 ghost use lib.ListN.{length};
-ghost use Rattle.table.specs.Limits.{placeSize};
-ghost use Rattle.table.specs.Table.{isTable, entries};
-ghost use Rattle.ldc.specs.Lists.{all, isEmpty};
-ghost use Rattle.ldc.specs.Store.{within};
+ghost use Rattle.table.specs.Table.{entries, TablePlace};
+ghost use Rattle.table.specs.Search.{countWithin};
+ghost use Rattle.ldc.specs.Lists.{all};
 ghost use Rattle.ldc.specs.Rules.{linkGood};
 ghost use Rattle.book.specs.Rows.{Sized, shownBy};
 ghost use Rattle.book.specs.Row.{theLink, linksIn};
@@ -21,20 +22,17 @@ use book::place;
 use book::row;
 use book::row::Link;
 use book::row::Row;
-use coding::key::Key;
-use table::entry;
 use table::search;
-use table::search::Found;
 
-// Does a table have an entry with a key from low to high?
-fn holds(place: &[u8], low: Key, high: Key) -> bool
-    requires { ⌜ (length (now place) ≡ placeSize) × (isTable (now place) ≡ true) ⌝ }
-    ensures { λ r. ⌜ r ≡ not (isEmpty (within (low .value) (high .value) (entries (now (place .entry))))) ⌝ }
+// Is the link's number that of a table's entries in its range? It is not zero, so that the link holds at least one of them.
+fn numbered(place: &[u8], l: Link) -> bool
+    requires { ⌜ TablePlace (now place) ⌝ }
+    ensures { λ r. ⌜
+        r ≡ not (eqb (l .number) 0) && eqb (l .number) (countWithin (l .low .value) (l .high .value) (entries (now (place .entry))))
+        ⌝ }
 {
-    let Found::At(at) = search::seek(place, low) else {
-        return false;
-    };
-    entry::key_at(place, at).at_most(high)
+    let n = search::count_within(place, l.low, l.high);
+    (l.number != 0) & (l.number == n as u64)
 }
 
 // Is this link good by itself?
@@ -54,7 +52,7 @@ fn link_good(area: &[u8], cards: &[Row], l: Link) -> bool
     if !row::is_frozen(&cards[p]) {
         return false;
     }
-    holds(place::bytes_of(area, p), low, high)
+    numbered(place::bytes_of(area, p), l)
 }
 
 // Are all links of this row good?

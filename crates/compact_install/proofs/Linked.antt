@@ -1,7 +1,7 @@
 -- Where the links to a frozen place hang in a sound store: on tables of one level, whose spans meet its keys. So a level's list can be searched for them.
 use Prim.Native.Nat.{ℕ, zero, suc, _*_, _≤_, _<_, _^_}
 use mathlib.Core.Path.{_≡_, refl, sym, _∙_, ap}
-use mathlib.Core.Bool.{Bool, true, false, not, _&&_}
+use mathlib.Core.Bool.{Bool, true, false, _&&_}
 use mathlib.Core.List.{List, [], _∷_, _++_, map, List·Memᴰ, List·Memᴰ·head, List·Memᴰ·tail, List·Memᴰ·cases-cons, List·Memᴰ·not-nil, Memᴰ·append-left, Memᴰ·append-right}
 use mathlib.Core.Logic.{⊎-elim}
 use native.Mathlib.Omega.{arith}
@@ -15,15 +15,15 @@ use Rattle.table.specs.Table.{entries, placeOf}
 use Rattle.table.specs.Search.{leastKey, greatestKey}
 use Rattle.table.specs.Valid.{Keys}
 use Rattle.ldc.specs.Lists.{all, howMany, flat, keep, isEmpty}
-use Rattle.ldc.specs.Store.{Link, Store, card, links, linksOf, isLive, isFrozen, bytesAt, table, level, slice, within, spanStart, spanEnd}
+use Rattle.ldc.specs.Store.{Link, Store, card, links, linksOf, isLive, bytesAt, table, level, slice, within, spanStart, spanEnd}
 use Rattle.ldc.specs.Lent.{Lent, storeOf}
-use Rattle.ldc.specs.Rules.{linkGood, Hung, hungOn, apart, allApart}
-use Rattle.ldc.proofs.Basics.Cases.{cases, clash, both-left, both-right, negated}
+use Rattle.ldc.specs.Rules.{Hung, hungOn, apart, allApart}
+use Rattle.ldc.proofs.Basics.Cases.{cases, clash, both-left, both-right}
 use Rattle.ldc.proofs.Basics.Counts.{one, total, counted-member}
 use Rattle.ldc.proofs.Basics.ListLaws.{all-at, mem-getD}
 use Rattle.ldc.proofs.Entries.Keys.{keys-order}
 use Rattle.ldc.proofs.Stores.CardFacts.{no-links, frozen-not-free}
-use Rattle.ldc.proofs.Stores.Facts.{listed-total, link-frozen, table-readable}
+use Rattle.ldc.proofs.Stores.Facts.{listed-total, link-frozen, link-holds, table-readable}
 use Rattle.ldc.proofs.Lent.Shows.{sizes}
 use Rattle.ldc.proofs.Stores.Naming.{any-elim}
 use Rattle.ldc.proofs.Stores.Sound.{Sound}
@@ -147,11 +147,9 @@ module _ (s : Store) (S : Sound s) where
   module _ (q : ℕ) (l : Link) (m : List·Memᴰ l (links s q)) where
     -- a link's range holds an entry
     link-entry : (e : Entry) × (List·Memᴰ e (table s (l .place)) × ((l .low ≤ e .key) × (e .key ≤ l .high)))
-    unfolding linkGood slice within
+    unfolding slice within
     link-entry =
-        let some = both-right (isFrozen (card s (l .place))) (not (isEmpty (slice s l)))
-        (both-right (leb (l .low) (l .high)) (isFrozen (card s (l .place)) && not (isEmpty (slice s l))) (S .hung q l m)) in
-        let r = kept-some (λ e. leb (l .low) (e .key) && leb (e .key) (l .high)) (table s (l .place)) (negated (isEmpty (slice s l)) some) in
+        let r = kept-some (λ e. leb (l .low) (e .key) && leb (e .key) (l .high)) (table s (l .place)) (link-holds s S q l m) in
         let e : Entry = r .0 in (
           e,
           (

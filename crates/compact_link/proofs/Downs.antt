@@ -1,10 +1,11 @@
 -- A chosen table of kept memory goes down: what the parts of the step may assume, and that their pieces are the memory of the store after it.
 use Prim.Native.Nat.{ℕ, zero, suc, _*_, _≤_, _<_}
-use mathlib.Core.Path.{_≡_, refl, sym, _∙_, ap}
+use mathlib.Core.Path.{_≡_, refl, sym, _∙_, ap, ap₂}
 use mathlib.Core.Bool.{true, false}
 use mathlib.Core.List.{List, [], _∷_, List·Memᴰ}
 use native.Mathlib.Omega.{arith}
 use lib.ListN.{length, getD, set, length-map}
+use Rattle.table.specs.Entry.{Entry}
 use Rattle.table.specs.Table.{entries, placeOf}
 use Rattle.ldc.specs.Lists.{isEmpty}
 use Rattle.ldc.specs.Store.{Store, size, frozen, card, links, bytesAt, table, level, spanEnd, withCard, withLevel}
@@ -41,23 +42,23 @@ lent-is : (area : List ℕ) (cards : List (List ℕ)) (lists head memory : List 
 lent-is area cards lists head memory m a c l h y = λ i. record { area = a i; cards = c i; lists = l i; head = h i; memory = y i }
 
 -- Hanging changes cards only.
-module _ (rs : List Slice) (t : Store) where
-  b : Beside t (hang rs t)
-  b = hang-beside rs t
+module _ (es : List Entry) (rs : List Slice) (t : Store) where
+  b : Beside t (hang es rs t)
+  b = hang-beside es rs t
 
-  hang-area : lentOf (hang rs t) .area ≡ lentOf t .area
+  hang-area : lentOf (hang es rs t) .area ≡ lentOf t .area
   unfolding lentOf
   hang-area = rw (b .same-places)
 
-  hang-lists : lentOf (hang rs t) .lists ≡ lentOf t .lists
+  hang-lists : lentOf (hang es rs t) .lists ≡ lentOf t .lists
   unfolding lentOf
   hang-lists = rw (b .same-places, b .same-levels)
 
-  hang-head : lentOf (hang rs t) .head ≡ lentOf t .head
+  hang-head : lentOf (hang es rs t) .head ≡ lentOf t .head
   unfolding lentOf
   hang-head = rw (b .same-threshold, b .same-cursor, b .same-marks, b .same-levels)
 
-  hang-memory : lentOf (hang rs t) .memory ≡ lentOf t .memory
+  hang-memory : lentOf (hang es rs t) .memory ≡ lentOf t .memory
   unfolding lentOf
   hang-memory = rw (b .same-memory)
 
@@ -214,7 +215,7 @@ module _ (m : Lent) (n p : ℕ) (r : Ready m n p) where
       let o = below-live q q∈ in
       (rw c (o .0), rw (links-same s first q c) (o .1))
 
-  linked-cards : hungRows (slicesOf s n p) (set (m .cards) p (rowOf frozen)) ≡ lentOf (doLink n p (slicesOf s n p) s) .cards
+  linked-cards : hungRows (table s p) (slicesOf s n p) (set (m .cards) p (rowOf frozen)) ≡ lentOf (doLink n p (slicesOf s n p) s) .cards
   unfolding doLink
   linked-cards =
       let same : slicesFrom s (table s p) p 0 (level s (suc n)) ≡ slicesOf s n p = unfold slicesFrom slicesOf in refl in
@@ -224,7 +225,7 @@ module _ (m : Lent) (n p : ℕ) (r : Ready m n p) where
       rw (← same, ← rows) (hung-cards s (table s p) p 0 (level s (suc n)) first (level-spans s S n) first-open)
 
   pub linked-lent : (cards : List (List ℕ)) (lists head : List ℕ)
-      → cards ≡ hungRows (slicesFrom (shownBy (m .area) (m .cards)) (entries (placeOf (m .area) p)) p 0 below) (set (m .cards) p (rowOf frozen))
+      → cards ≡ hungRows (entries (placeOf (m .area) p)) (slicesFrom (shownBy (m .area) (m .cards)) (entries (placeOf (m .area) p)) p 0 below) (set (m .cards) p (rowOf frozen))
       → lists ≡ lentOf (leaves n p s) .lists → head ≡ lentOf (leaves n p s) .head
       → lent (m .area) cards lists head (m .memory) ≡ lentOf (doLink n p (slicesOf s n p) s)
   unfolding doLink
@@ -235,7 +236,7 @@ module _ (m : Lent) (n p : ℕ) (r : Ready m n p) where
       let h : lentOf (leaves n p s) .head ≡ lentOf first .head = unfold lentOf in refl in
       let y : lentOf s .memory ≡ lentOf first .memory = unfold lentOf leaves in refl in
       lent-is (m .area) cards lists head (m .memory) (lentOf (doLink n p rs s))
-      (sym (ap (λ (x : Lent). x .area) back) ∙ a ∙ sym (hang-area rs first))
-      (ce ∙ ap (λ (xs : List Slice). hungRows xs (set (m .cards) p (rowOf frozen))) slices-shown ∙ linked-cards)
-      (gl ∙ l ∙ sym (hang-lists rs first)) (gh ∙ h ∙ sym (hang-head rs first))
-      (sym (ap (λ (x : Lent). x .memory) back) ∙ y ∙ sym (hang-memory rs first))
+      (sym (ap (λ (x : Lent). x .area) back) ∙ a ∙ sym (hang-area (table s p) rs first))
+      (ce ∙ ap₂ (λ (es : List Entry) (xs : List Slice). hungRows es xs (set (m .cards) p (rowOf frozen))) (sym ready-table) slices-shown ∙ linked-cards)
+      (gl ∙ l ∙ sym (hang-lists (table s p) rs first)) (gh ∙ h ∙ sym (hang-head (table s p) rs first))
+      (sym (ap (λ (x : Lent). x .memory) back) ∙ y ∙ sym (hang-memory (table s p) rs first))

@@ -11,13 +11,12 @@ use Rattle.ldc.specs.Lists.{isEmpty}
 use Rattle.ldc.specs.Store.{live, Store, size, card, links, isLive, within, spanEnd, withCard}
 use Rattle.ldc.specs.Lent.{lentOf}
 use Rattle.ldc.specs.Tidy.{Slice, greatest}
-use Rattle.ldc.specs.Steps.{hang}
+use Rattle.ldc.specs.Steps.{linkTo, hang}
 use Rattle.ldc.proofs.Basics.Cases.{cases}
 use Rattle.ldc.proofs.Lent.Changes.{cards-withCard}
 use Rattle.ldc.proofs.Stores.CardFacts.{live-not-free, live-links}
 use Rattle.ldc.proofs.Stores.Changes.{card-other, below-size}
 use Rattle.ldc.proofs.Stores.Frame.{links-same}
-use Rattle.ldc.proofs.Stores.Hang.{linkOf}
 use Rattle.ldc.specs.Layout.{linkLimit, rowOf}
 use Rattle.ldc.specs.Facts.{Spans}
 use Rattle.book.proofs.Rows.{row-at, link-added}
@@ -33,37 +32,37 @@ pub live-row : (t : Store) (q : ℕ) → isLive (card t q) ≡ true → getD (le
 unfolding lentOf links card size
 live-row t q h = row-at (t .cards) q (below-size t q (live-not-free (card t q) h)) ∙ ap rowOf (live-links (card t q) h)
 
-abbrev hungOne : Slice → Store → Store
-hungOne r t = withCard (r .on) (live (links t (r .on) ++ (linkOf r ∷ []))) t
+abbrev hungOne : (chosen : List Entry) → Slice → Store → Store
+hungOne es r t = withCard (r .on) (live (links t (r .on) ++ (linkTo es r ∷ []))) t
 
-hung-one : (r : Slice) (t : Store) → Open t (r .on) → hungRow r (lentOf t .cards) ≡ lentOf (hungOne r t) .cards
+hung-one : (es : List Entry) (r : Slice) (t : Store) → Open t (r .on) → hungRow es r (lentOf t .cards) ≡ lentOf (hungOne es r t) .cards
 unfolding hungRow
-hung-one r t o =
-    rw (live-row t (r .on) (o .0), link-added (links t (r .on)) (linkOf r) (o .1))
-    (sym (cards-withCard t (r .on) (live (links t (r .on) ++ (linkOf r ∷ [])))))
+hung-one es r t o =
+    rw (live-row t (r .on) (o .0), link-added (links t (r .on)) (linkTo es r) (o .1))
+    (sym (cards-withCard t (r .on) (live (links t (r .on) ++ (linkTo es r ∷ [])))))
 
-open-other : (r : Slice) (t : Store) (q : ℕ) → (q ≡ r .on → ⊥) → Open t q → Open (hungOne r t) q
-open-other r t q n o =
-    let c = card-other t (r .on) (live (links t (r .on) ++ (linkOf r ∷ []))) q n in
-    (rw c (o .0), rw (links-same t (hungOne r t) q c) (o .1))
+open-other : (es : List Entry) (r : Slice) (t : Store) (q : ℕ) → (q ≡ r .on → ⊥) → Open t q → Open (hungOne es r t) q
+open-other es r t q n o =
+    let c = card-other t (r .on) (live (links t (r .on) ++ (linkTo es r ∷ []))) q n in
+    (rw c (o .0), rw (links-same t (hungOne es r t) q c) (o .1))
 
 module _ (s : Store) (es : List Entry) (p : ℕ) where
   pub hung-cards : (from : ℕ) (qs : List ℕ) (t : Store) → Spans s from qs → ((q : ℕ) → List·Memᴰ q qs → Open t q)
-      → hungRows (slicesFrom s es p from qs) (lentOf t .cards) ≡ lentOf (hang (slicesFrom s es p from qs) t) .cards
+      → hungRows es (slicesFrom s es p from qs) (lentOf t .cards) ≡ lentOf (hang es (slicesFrom s es p from qs) t) .cards
   unfolding hungRows
   hung-cards from [] t h o = rw (slices-nil s es p from)
   hung-cards from (q ∷ []) t h o =
       cases (isEmpty (within from greatest es))
       (λ e. rw (slices-short s es p from q e))
-      (λ e. rw (slices-last s es p from q e) (hung-one (record { place = p; on = q; low = from; high = greatest }) t (o q (List·Memᴰ·head refl))))
+      (λ e. rw (slices-last s es p from q e) (hung-one es (record { place = p; on = q; low = from; high = greatest }) t (o q (List·Memᴰ·head refl))))
   hung-cards from (q ∷ x ∷ qs) t h o =
       cases (isEmpty (within from (spanEnd s q) es))
       (λ e. rw (slices-pass s es p from q x qs e) (hung-cards (suc (spanEnd s q)) (x ∷ qs) t (h .2) (λ y m. o y (List·Memᴰ·tail m))))
       (λ e. let r : Slice = record { place = p; on = q; low = from; high = spanEnd s q } in
       rw (slices-take s es p from q x qs e)
-      (ap (λ (rows : List (List ℕ)). hungRows (slicesFrom s es p (suc (spanEnd s q)) (x ∷ qs)) rows) (hung-one r t (o q (List·Memᴰ·head refl)))
-      ∙ hung-cards (suc (spanEnd s q)) (x ∷ qs) (hungOne r t) (h .2)
-      (λ y m. open-other r t y
+      (ap (λ (rows : List (List ℕ)). hungRows es (slicesFrom s es p (suc (spanEnd s q)) (x ∷ qs)) rows) (hung-one es r t (o q (List·Memᴰ·head refl)))
+      ∙ hung-cards (suc (spanEnd s q)) (x ∷ qs) (hungOne es r t) (h .2)
+      (λ y m. open-other es r t y
       (λ z. let over = spans-above s (suc (spanEnd s q)) (x ∷ qs) y (h .2) m in
       let same : spanEnd s y ≡ spanEnd s q = ap (spanEnd s) z in omega arith)
       (o y (List·Memᴰ·tail m)))))

@@ -13,11 +13,11 @@ use Rattle.table.specs.Entry.{Entry}
 use Rattle.ldc.specs.Store.{Link, Card, live, frozen, Store, linksOf, links, bytesAt, spanStart, spanEnd}
 use Rattle.ldc.specs.Lent.{storeOf}
 use Rattle.ldc.specs.Tidy.{Slice, Reach, responsible, holding}
+use Rattle.ldc.specs.Steps.{linkTo}
 use Rattle.ldc.proofs.Basics.Cases.{cases}
 use Rattle.ldc.proofs.Basics.ListLaws.{mem-getD, getD-mem}
 use Rattle.ldc.proofs.Lent.Parts.{card-back, count-rowOf, good-rowOf}
 use Rattle.ldc.proofs.Stores.Frame.{map-cong, spanStart-same, spanEnd-same, spansRise-same}
-use Rattle.ldc.proofs.Stores.Hang.{linkOf}
 use Rattle.ldc.proofs.Stores.Spans.{spans-rise}
 use Rattle.ldc.specs.Layout.{linkLimit, linkCount, cardOf, rowOf, linkAt}
 use Rattle.ldc.specs.Facts.{Spans}
@@ -144,15 +144,15 @@ module _ (area : List ℕ) (cards : List (List ℕ)) (from : ℕ) (qs : List ℕ
   near-card = carded area cards (b .legible) (getD qs i 0) (b .rising .listed i h)
 
   -- One link more on the row of the i-th table.
-  module _ (r : Slice) (on : r .on ≡ getD qs i 0) (tabled : Tabled area (r .place)) where
+  module _ (es : List Entry) (r : Slice) (on : r .on ≡ getD qs i 0) (tabled : Tabled area (r .place)) where
     abbrev more : List Link
-    more = b .roomy i h .held ++ (linkOf r ∷ [])
+    more = b .roomy i h .held ++ (linkTo es r ∷ [])
 
-    pub hung-row : hungRow r cards ≡ set cards (getD qs i 0) (rowOf (live more))
+    pub hung-row : hungRow es r cards ≡ set cards (getD qs i 0) (rowOf (live more))
     unfolding hungRow
     hung-row =
         rw (on, b .roomy i h .shown)
-        (ap (λ (row : List ℕ). set cards (getD qs i 0) row) (link-added (b .roomy i h .held) (linkOf r) (b .roomy i h .room)))
+        (ap (λ (row : List ℕ). set cards (getD qs i 0) row) (link-added (b .roomy i h .held) (linkTo es r) (b .roomy i h .room)))
 
     named : (l : Link) → List·Memᴰ l more → Tabled area (l .place)
     named l m =
@@ -169,21 +169,21 @@ module _ (area : List ℕ) (cards : List (List ℕ)) (from : ℕ) (qs : List ℕ
         (λ new. ⊎-elim (λ e. let p : l .place ≡ r .place = ap (λ (x : Link). x .place) e in rw p tabled) (λ t. absurd (elim t [ ])) (List·Memᴰ·cases-cons new))
         (List·Memᴰ·append-cases (row .held) m)
 
-    pub hung-legible : Legible area (hungRow r cards)
+    pub hung-legible : Legible area (hungRow es r cards)
     hung-legible =
         rw hung-row
         (legible-set area cards (getD qs i 0) (live more) (b .legible) near-card (rw length-append (omega (arith, b .roomy i h .room))) named)
 
-    hung-same : SameRows area cards (hungRow r cards) (drop (suc i) qs)
+    hung-same : SameRows area cards (hungRow es r cards) (drop (suc i) qs)
     hung-same q m = rw hung-row (getD-set-other cards (getD qs i 0) q (rowOf (live more)) [] (behind-other q m))
 
     -- The tables behind are as they were.
-    pub hung-below : Hosts area (hungRow r cards) (suc (highOf s qs i)) (drop (suc i) qs)
-    hung-below = same-below area cards (hungRow r cards) (suc (highOf s qs i)) (drop (suc i) qs) hung-legible hung-same below-drop
+    pub hung-below : Hosts area (hungRow es r cards) (suc (highOf s qs i)) (drop (suc i) qs)
+    hung-below = same-below area cards (hungRow es r cards) (suc (highOf s qs i)) (drop (suc i) qs) hung-legible hung-same below-drop
 
-    pub hung-slices : (es : List Entry) (p low : ℕ)
-        → slicesFrom (shownBy area (hungRow r cards)) es p low (drop (suc i) qs) ≡ slicesFrom (shownBy area cards) es p low (drop (suc i) qs)
-    hung-slices es p low = same-slices area cards (hungRow r cards) es p low (drop (suc i) qs) hung-same
+    pub hung-slices : (p low : ℕ)
+        → slicesFrom (shownBy area (hungRow es r cards)) es p low (drop (suc i) qs) ≡ slicesFrom (shownBy area cards) es p low (drop (suc i) qs)
+    hung-slices p low = same-slices area cards (hungRow es r cards) es p low (drop (suc i) qs) hung-same
 
 -- ---- the chosen table frozen
 

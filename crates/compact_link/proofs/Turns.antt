@@ -43,13 +43,13 @@ rest-some items first h = rw length-drop (omega arith)
 
 module _ (s : Store) (es : List Entry) (p low : ℕ) (cards : List (List ℕ)) where
   -- With no table left, or no entry, nothing more is hung.
-  pub none-left : (items : List ℕ) (first : ℕ) → length items ≤ first → hungRows (slicesFrom s es p low (drop first items)) cards ≡ cards
+  pub none-left : (items : List ℕ) (first : ℕ) → length items ≤ first → hungRows es (slicesFrom s es p low (drop first items)) cards ≡ cards
   unfolding hungRows
   none-left items first h =
       let e : drop first items ≡ [] = drop-of-length-le items {i = first} h in
       rw (e, slices-nil s es p low)
 
-  pub none-spent : (qs : List ℕ) → leastFrom low es ≡ none → Spans s low qs → hungRows (slicesFrom s es p low qs) cards ≡ cards
+  pub none-spent : (qs : List ℕ) → leastFrom low es ≡ none → Spans s low qs → hungRows es (slicesFrom s es p low qs) cards ≡ cards
   unfolding hungRows
   none-spent qs h o = rw (slices-spent s es p low qs (spent-of low es h) o)
 
@@ -58,14 +58,14 @@ pub record Turned (area : List ℕ) (cards cards′ : List (List ℕ)) (items : 
   pub near : first + (at + 1) ≤ length items
   pub same : length cards′ ≡ length cards
   pub below : Hosts area cards′ (high + 1) (drop (first + (at + 1)) items)
-  pub left : hungRows (slicesFrom (shownBy area cards) es p from (drop first items)) cards
-      ≡ hungRows (slicesFrom (shownBy area cards′) es p (high + 1) (drop (first + (at + 1)) items)) cards′
+  pub left : hungRows es (slicesFrom (shownBy area cards) es p from (drop first items)) cards
+      ≡ hungRows es (slicesFrom (shownBy area cards′) es p (high + 1) (drop (first + (at + 1)) items)) cards′
   pub room : (first + (at + 1) ≡ length items → ⊥) → high < greatest
 
 module _ (area : List ℕ) (cards cards′ : List (List ℕ)) (qs : List ℕ) (es : List Entry) (p from k at high : ℕ) (bytes : Bytes area)
     (b : Hosts area cards from qs) (some′ : 1 ≤ length qs) (t : Tabled area p) (met : leastFrom from es ≡ some k) (key : k ≤ greatest)
     (ae : at ≡ keeper (shownBy area cards) k qs) (he : high ≡ highOf (shownBy area cards) qs at)
-    (ce : cards′ ≡ hungRow (sliceAt (shownBy area cards) p from qs at) cards) where
+    (ce : cards′ ≡ hungRow es (sliceAt (shownBy area cards) p from qs at) cards) where
   r : Slice
   r = sliceAt (shownBy area cards) p from qs at
 
@@ -82,14 +82,14 @@ module _ (area : List ℕ) (cards cards′ : List (List ℕ)) (qs : List ℕ) (e
 
   turn-below : Hosts area cards′ (suc high) (drop (suc at) qs)
   unfolding r
-  turn-below = rw (ce, he) (hung-below area cards from qs b at few r on place)
+  turn-below = rw (ce, he) (hung-below area cards from qs b at few es r on place)
 
-  turn-left : hungRows (slicesFrom (shownBy area cards) es p from qs) cards ≡ hungRows (slicesFrom (shownBy area cards′) es p (suc high) (drop (suc at) qs)) cards′
+  turn-left : hungRows es (slicesFrom (shownBy area cards) es p from qs) cards ≡ hungRows es (slicesFrom (shownBy area cards′) es p (suc high) (drop (suc at) qs)) cards′
   unfolding hungRows r
   turn-left =
-      ap (λ (rs : List Slice). hungRows rs cards) (slices-met (shownBy area cards) es p from k qs (next-of from k es met) key (b .spans) some′)
+      ap (λ (rs : List Slice). hungRows es rs cards) (slices-met (shownBy area cards) es p from k qs (next-of from k es met) key (b .spans) some′)
       ∙ rw (← ae, ← he)
-      (ap (λ (rs : List Slice). hungRows rs (hungRow r cards)) (sym (hung-slices area cards from qs b at few r on place es p (suc high)))
+      (ap (λ (rs : List Slice). hungRows es rs (hungRow es r cards)) (sym (hung-slices area cards from qs b at few es r on place p (suc high)))
       ∙ rw (← ce))
 
   turn-room : (suc at ≡ length qs → ⊥) → high < greatest
@@ -101,7 +101,7 @@ module _ (area : List ℕ) (cards cards′ : List (List ℕ)) (qs : List ℕ) (e
 pub turned : (area : List ℕ) (cards cards′ : List (List ℕ)) (items part : List ℕ) (es : List Entry) (p from first k at high : ℕ) → Bytes area
     → part ≡ drop first items → first < length items → Hosts area cards from (drop first items) → Tabled area p → leastFrom from es ≡ some k → k ≤ greatest
     → at ≡ keeper (shownBy area cards) k part → high ≡ highOf (shownBy area cards) part at
-    → cards′ ≡ hungRow (sliceAt (shownBy area cards) p from part at) cards
+    → cards′ ≡ hungRow es (sliceAt (shownBy area cards) p from part at) cards
     → Turned area cards cards′ items es p from first at high
 unfolding hungRow
 turned area cards cards′ items part es p from first k at high bytes pe l b t met key ae he ce =
@@ -110,7 +110,7 @@ turned area cards cards′ items part es p from first k at high bytes pe l b t m
     let some′ : 1 ≤ length qs = omega arith in
     let ae′ : at ≡ keeper (shownBy area cards) k qs = rw pe at ae in
     let he′ : high ≡ highOf (shownBy area cards) qs at = rw pe at he in
-    let ce′ : cards′ ≡ hungRow (sliceAt (shownBy area cards) p from qs at) cards = rw pe at ce in
+    let ce′ : cards′ ≡ hungRow es (sliceAt (shownBy area cards) p from qs at) cards = rw pe at ce in
     let next : drop (suc at) qs ≡ drop (first + (at + 1)) items = drop-drop (suc at) first items ∙ rw (add-one at) in
     let high1 : suc high ≡ high + 1 = omega arith in
     let f = few area cards cards′ qs es p from k at high bytes b some′ t met key ae′ he′ ce′ in

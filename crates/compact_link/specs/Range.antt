@@ -6,15 +6,15 @@ use mathlib.Core.List.{List, [], _∷_, map}
 use lib.Dec.{eqb}
 use lib.ListN.{length, getD, set}
 use Rattle.table.specs.Entry.{Entry}
-use Rattle.table.specs.Table.{entries, placeOf}
 use Rattle.ldc.specs.Store.{Link, Store, live, spanEnd}
 use Rattle.ldc.specs.Tidy.{Slice, greatest, responsible, holding}
+use Rattle.ldc.specs.Steps.{linkTo}
 use Rattle.ldc.specs.Layout.{linkLimit, rowOf}
 use Rattle.ldc.specs.Facts.{Spans}
 use Rattle.book.specs.Pieces.{Words, Rows}
 use Rattle.book.specs.Row.{linkAdded}
 use Rattle.book.specs.Rows.{shownBy}
-use Rattle.read.specs.Shown.{Tabled, Legible, Rising}
+use Rattle.read.specs.Shown.{Tabled, Legible, Rising, tableIn}
 use Rattle.read.specs.Level.{rank}
 
 -- The store that area and cards show when a call begins.
@@ -53,17 +53,17 @@ slicesFrom s es p from qs = holding es (responsible p from (map (λ q. record { 
 
 -- The slices of p that hang on all tables of a level, when a call begins.
 abbrev pub slicesSeen : (area : Words) → (cards : Rows) → (items : Words) → (p : ℕ) → List Slice
-slicesSeen area cards items p = slicesFrom (seen area cards) (entries (placeOf (area .entry .now) p)) p 0 (items .entry .now)
+slicesSeen area cards items p = slicesFrom (seen area cards) (tableIn area p) p 0 (items .entry .now)
 
 -- ---- rows
 
--- Rows with a slice hung on: the row of its table has one link more.
-unfoldable pub hungRow : Slice → List (List ℕ) → List (List ℕ)
-hungRow r rows = set rows (r .on) (linkAdded (record { place = r .place; low = r .low; high = r .high }) (getD rows (r .on) []))
+-- Rows with a slice of a table with these entries hung on: the row of its table has one link more.
+unfoldable pub hungRow : (chosen : List Entry) → Slice → List (List ℕ) → List (List ℕ)
+hungRow es r rows = set rows (r .on) (linkAdded (linkTo es r) (getD rows (r .on) []))
 
-unfoldable pub hungRows : List Slice → List (List ℕ) → List (List ℕ)
-hungRows [] rows = rows
-hungRows (r ∷ rs) rows = hungRows rs (hungRow r rows)
+unfoldable pub hungRows : (chosen : List Entry) → List Slice → List (List ℕ) → List (List ℕ)
+hungRows es [] rows = rows
+hungRows es (r ∷ rs) rows = hungRows es rs (hungRow es r rows)
 
 -- The row of a live table with room for one link more.
 pub record Roomy (row : List ℕ) : Type 0 where

@@ -4,13 +4,14 @@ ghost use Prim.Native.Nat.{_≤_};
 ghost use lib.ListN.{length, set};
 ghost use Rattle.ldc.specs.Store.{frozen};
 ghost use Rattle.ldc.specs.Layout.{rowOf};
-ghost use Rattle.read.specs.Shown.{Tabled};
+ghost use Rattle.read.specs.Shown.{Tabled, tableIn};
 ghost use Rattle.compact_link.specs.Range.{seen, keeper, highOf, sliceAt, slicesSeen, hungRow, hungRows, Hosts, Linkable};
 use super::range;
 use book::row;
 use book::row::Link;
 use book::row::Row;
 use coding::key::Key;
+use read::place;
 use read_seek::least;
 use read_seek::least::Least;
 
@@ -22,16 +23,20 @@ pub struct Hung {
 
 // Hangs a slice of p on the table that is responsible for a key.
 fn hang_at(area: &[u8], cards: &mut [Row], items: &[u16], p: usize, from: Key, key: Key) -> Hung
-    requires { ⌜ Hosts (now area) (now cards) (from .value) (now items) × (1 ≤ length (now items)) ⌝ }
+    requires { ⌜
+        Hosts (now area) (now cards) (from .value) (now items) × ((1 ≤ length (now items)) × Tabled (now area) p)
+        ⌝ }
     ensures { λ r. ⌜
         (r .at ≡ keeper (seen area cards) (key .value) (now (items .entry)))
         × ((r .high .value ≡ highOf (seen area cards) (now (items .entry)) (r .at))
-        × (now (cards .exit) ≡ hungRow (sliceAt (seen area cards) p (from .value) (now (items .entry)) (r .at)) (now (cards .entry))))
+        × (now (cards .exit)
+        ≡ hungRow (tableIn area p) (sliceAt (seen area cards) p (from .value) (now (items .entry)) (r .at)) (now (cards .entry))))
         ⌝ }
 {
     let at = range::keeper_of(area, cards, items, key);
     let low = range::low_end(area, cards, items, at, from);
     let high = range::high_end(area, cards, items, at);
+    let number = place::count_within(area, p, low, high) as u64;
     row::add_link(
         cards,
         items[at] as usize,
@@ -39,6 +44,7 @@ fn hang_at(area: &[u8], cards: &mut [Row], items: &[u16], p: usize, from: Key, k
             place: p,
             low,
             high,
+            number,
         },
     );
     Hung { at, high }
@@ -47,7 +53,7 @@ fn hang_at(area: &[u8], cards: &mut [Row], items: &[u16], p: usize, from: Key, k
 // Hangs all slices of p: for each the next entry of p decides which table is responsible, and the tables passed by have none.
 fn hang_all(area: &[u8], cards: &mut [Row], items: &[u16], p: usize)
     requires { ⌜ Hosts (now area) (now cards) 0 (now items) × Tabled (now area) p ⌝ }
-    ensures { λ _. ⌜ now (cards .exit) ≡ hungRows (slicesSeen area cards items p) (now (cards .entry)) ⌝ }
+    ensures { λ _. ⌜ now (cards .exit) ≡ hungRows (tableIn area p) (slicesSeen area cards items p) (now (cards .entry)) ⌝ }
 {
     let mut first = 0;
     let mut from = Key::LEAST;
@@ -70,7 +76,7 @@ fn hang_all(area: &[u8], cards: &mut [Row], items: &[u16], p: usize)
 pub fn link(area: &[u8], cards: &mut [Row], items: &[u16], p: usize)
     requires { ⌜ Linkable (now area) (now cards) (now items) p ⌝ }
     ensures { λ _. ⌜
-        now (cards .exit) ≡ hungRows (slicesSeen area cards items p) (set (now (cards .entry)) p (rowOf frozen))
+        now (cards .exit) ≡ hungRows (tableIn area p) (slicesSeen area cards items p) (set (now (cards .entry)) p (rowOf frozen))
         ⌝ }
 {
     row::set_state(cards, p, row::FROZEN);

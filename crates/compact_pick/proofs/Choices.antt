@@ -13,16 +13,20 @@ use Rattle.compact_pick.specs.Due.{passesBy, Items, Linked}
 use Rattle.compact_pick.specs.declared.due.Wanted.the-variants.{Bare}
 use Rattle.compact_pick.specs.Plan.{levelPlan}
 use Rattle.compact_pick.specs.declared.Plan.the-variants.{Down, Merge}
-use Rattle.compact_pick.proofs.Dues.{first-same, first-left, first-right, bare-same}
+use Rattle.compact_pick.proofs.Dues.{first-left, first-right, bare-same}
 
--- Parts of a list whose items have cards.
-pub items-drop : (cards : List (List ℕ)) (items : List ℕ) (k : ℕ) → Items cards items → Items cards (drop k items)
-items-drop cards items k h i l = rw (getD-drop k items i 0) (h (k + i) (omega (arith, length-drop k items)))
+-- Parts of a list whose items name tables.
+pub items-drop : (area : List ℕ) (cards : List (List ℕ)) (items : List ℕ) (k : ℕ) → Items area cards items → Items area cards (drop k items)
+items-drop area cards items k h = record {
+  legible = h .legible;
+  listed = λ i l. rw (getD-drop k items i 0) (h .listed (k + i) (omega (arith, length-drop k items)));
+}
 
-pub items-take : (cards : List (List ℕ)) (items : List ℕ) (k : ℕ) → k ≤ length items → Items cards items → Items cards (take k items)
-items-take cards items k f h i l =
-    let n : i < k = omega (arith, length-take-le k items f) in
-    rw (getD-take k items i 0 n) (h i (omega arith))
+pub items-take : (area : List ℕ) (cards : List (List ℕ)) (items : List ℕ) (k : ℕ) → k ≤ length items → Items area cards items → Items area cards (take k items)
+items-take area cards items k f h = record {
+  legible = h .legible;
+  listed = λ i l. let n : i < k = omega (arith, length-take-le k items f) in rw (getD-take k items i 0 n) (h .listed i (omega arith));
+}
 
 -- The rest of a list, as the code takes it.
 pub part-rest : (items : List ℕ) (k : ℕ) → take (length items - k) (drop k items) ≡ drop k items
@@ -35,37 +39,33 @@ first-front items k h = rw (drop-cons items k 0 h)
 pub first-back : (items : List ℕ) (k : ℕ) → 0 < length items → length items ≤ k → getD (drop k items ++ take k items) 0 0 ≡ getD items 0 0
 first-back items k h l = rw (drop-of-length-le items {i = k} l) (getD-take k items 0 0 (omega arith))
 
-module _ (s : Store) (cards : List (List ℕ)) (items : List ℕ) (n k : ℕ) (b : Linked s cards) (h : Items cards items) (f : k ≤ length items)
+module _ (s : Store) (area : List ℕ) (cards : List (List ℕ)) (items : List ℕ) (n k : ℕ) (b : Linked s cards)
     (el : level s n ≡ items) (ek : k ≡ passed s (mark s n) items) where
   round-is : round s n ≡ drop k items ++ take k items
   unfolding round
   round-is = rw (el, ← ek)
 
-  bare-first : (xs : List ℕ) → Items cards xs → first (passesBy cards Bare) xs ≡ first (λ p. isEmpty (links s p)) xs
-  bare-first xs it =
-      first-same (passesBy cards Bare) (λ p. isEmpty (links s p)) xs (λ i l. bare-same s cards b (getD xs i 0) (it i l))
+  front : first (passesBy area cards Bare) (drop k items) ≡ first (λ p. isEmpty (links s p)) (drop k items)
+  front = bare-same s area cards b (drop k items)
 
-  front : first (passesBy cards Bare) (drop k items) ≡ first (λ p. isEmpty (links s p)) (drop k items)
-  front = bare-first (drop k items) (items-drop cards items k h)
+  back : first (passesBy area cards Bare) (take k items) ≡ first (λ p. isEmpty (links s p)) (take k items)
+  back = bare-same s area cards b (take k items)
 
-  back : first (passesBy cards Bare) (take k items) ≡ first (λ p. isEmpty (links s p)) (take k items)
-  back = bare-first (take k items) (items-take cards items k f h)
-
-  pub down-front : (p : ℕ) → first (passesBy cards Bare) (drop k items) ≡ some p → Down n p ≡ levelPlan s (some n)
+  pub down-front : (p : ℕ) → first (passesBy area cards Bare) (drop k items) ≡ some p → Down n p ≡ levelPlan s (some n)
   unfolding levelPlan
   down-front p e =
       let found = ap (first (λ p. isEmpty (links s p))) round-is ∙ first-left (λ p. isEmpty (links s p)) (drop k items) (take k items) p (sym front ∙ e) in
       rw found
 
-  module _ (missed : first (passesBy cards Bare) (drop k items) ≡ none) where
-    behind : first (λ p. isEmpty (links s p)) (round s n) ≡ first (passesBy cards Bare) (take k items)
+  module _ (missed : first (passesBy area cards Bare) (drop k items) ≡ none) where
+    behind : first (λ p. isEmpty (links s p)) (round s n) ≡ first (passesBy area cards Bare) (take k items)
     behind =
         ap (first (λ p. isEmpty (links s p))) round-is ∙ first-right (λ p. isEmpty (links s p)) (drop k items) (take k items) (sym front ∙ missed) ∙ sym back
 
-    pub down-back : (p : ℕ) → first (passesBy cards Bare) (take k items) ≡ some p → Down n p ≡ levelPlan s (some n)
+    pub down-back : (p : ℕ) → first (passesBy area cards Bare) (take k items) ≡ some p → Down n p ≡ levelPlan s (some n)
     unfolding levelPlan
     down-back p e = rw (behind, e)
 
-    pub all-linked : first (passesBy cards Bare) (take k items) ≡ none → Merge n (getD (drop k items ++ take k items) 0 0) ≡ levelPlan s (some n)
+    pub all-linked : first (passesBy area cards Bare) (take k items) ≡ none → Merge n (getD (drop k items ++ take k items) 0 0) ≡ levelPlan s (some n)
     unfolding levelPlan
     all-linked e = rw (behind, e, round-is)

@@ -1,30 +1,23 @@
--- What the rows say of links is what the store says; so the first of a list by its rows is the first by the store.
+-- What rows and places say of links and entries is what the store says; so the first of a list by them is the first by the store.
 use Prim.Native.Nat.{ℕ, zero, suc, _-_, _≤_, _<_}
 use mathlib.Core.Path.{_≡_, refl, sym, _∙_, ap}
 use mathlib.Core.List.{List, [], _∷_, _++_}
 use mathlib.Core.Bool.{Bool}
 use mathlib.Core.Option.{some, none}
 use native.Mathlib.Omega.{arith}
-use borrow.Author.Tests.{ne-eqb}
-use lib.Dec.{eqb}
 use lib.ListN.{length, getD, drop, drop-of-length-le}
 use Rattle.ldc.specs.Lists.{first, isEmpty}
-use Rattle.ldc.specs.Store.{Store, Link, links, level}
+use Rattle.ldc.specs.Store.{Store, links, level}
+use Rattle.ldc.specs.Lent.{Lent}
 use Rattle.ldc.specs.Layout.{levelCount, thresholdIn, itemsIn}
 use Rattle.ldc.specs.Tidy.{due, dueIn}
 use Rattle.ldc.proofs.Basics.Cases.{cases}
+use Rattle.ldc.proofs.Basics.ListLaws.{first-same}
 use Rattle.book.specs.Place.{theIndex}
 use Rattle.book.specs.declared.index.Index.{Index}
 use Rattle.book.specs.declared.index.Index.the-variants.{At, Nothing}
-use Rattle.compact_pick.specs.Due.{passesBy, Lists, Linked, Booked}
-use Rattle.compact_pick.specs.declared.due.Wanted.the-variants.{Links, Bare}
-
--- Tests that agree on a list find the same.
-pub first-same : (t u : ℕ → Bool) (xs : List ℕ) → ((i : ℕ) → i < length xs → t (getD xs i 0) ≡ u (getD xs i 0)) → first t xs ≡ first u xs
-first-same t u [] h = refl
-first-same t u (x ∷ xs) h =
-    let here : t x ≡ u x = h 0 (omega arith) in
-    rw (here, first-same t u xs (λ i k. h (suc i) (omega arith)))
+use Rattle.compact_pick.specs.Due.{passesBy, Reads, Linked, ToldBy}
+use Rattle.compact_pick.specs.declared.due.Wanted.the-variants.{DueBy, Bare}
 
 -- The first of two lists: of the first, if it has one.
 pub first-left : (t : ℕ → Bool) (xs ys : List ℕ) (p : ℕ) → first t xs ≡ some p → first t (xs ++ ys) ≡ some p
@@ -40,18 +33,14 @@ first-right t (x ∷ xs) ys =
 
 -- ---- rows and the store
 
-empty-count : (ls : List Link) → eqb (length ls) 0 ≡ isEmpty ls
-empty-count [] = refl
-empty-count (l ∷ ls) = ne-eqb (suc (length ls)) 0 (λ e. omega arith)
-
-module _ (s : Store) (cards : List (List ℕ)) (b : Linked s cards) where
-  pub bare-same : (p : ℕ) → p < length cards → passesBy cards Bare p ≡ isEmpty (links s p)
+module _ (s : Store) (area : List ℕ) (cards : List (List ℕ)) (b : Linked s cards) where
+  pub bare-same : (xs : List ℕ) → first (passesBy area cards Bare) xs ≡ first (λ p. isEmpty (links s p)) xs
   unfolding passesBy
-  bare-same p h = rw (← (b p h)) (empty-count (links s p))
+  bare-same xs = first-same (passesBy area cards Bare) (λ p. isEmpty (links s p)) xs 0 (λ i _. rw (b (getD xs i 0)))
 
-  pub due-same : (p : ℕ) → p < length cards → passesBy cards (Links (s .threshold)) p ≡ due s p
+  due-same : Reads s area → (xs : List ℕ) → first (passesBy area cards (DueBy (s .threshold))) xs ≡ first (due s) xs
   unfolding passesBy due
-  due-same p h = rw (← (b p h))
+  due-same r xs = first-same (passesBy area cards (DueBy (s .threshold))) (due s) xs 0 (λ i _. rw (b (getD xs i 0), r (getD xs i 0)))
 
 -- ---- the due table, level by level
 
@@ -69,19 +58,19 @@ levels-end (suc (suc zero)) a = absurd (omega arith)
 levels-end (suc (suc (suc zero))) a = absurd (omega arith)
 levels-end (suc (suc (suc (suc n)))) a = let e : suc (suc (suc (suc n))) - 1 ≡ suc (suc (suc n)) = omega arith in rw e (drop-of-length-le {A = ℕ} (1 ∷ 2 ∷ 3 ∷ []) {i = suc (suc (suc n))} (omega arith))
 
-module _ (s : Store) (cards : List (List ℕ)) (lists head : List ℕ) (l : Lists cards lists head) (b : Booked s cards lists head) (n : ℕ) (k : n < levelCount) where
-  -- The first due one of a level, by rows and by the store.
-  level-due : (t : ℕ) → t ≡ thresholdIn head → first (passesBy cards (Links t)) (itemsIn (length cards) lists head n) ≡ first (due s) (level s n)
+module _ (s : Store) (m : Lent) (w : ToldBy s m) (n : ℕ) (k : n < levelCount) where
+  -- The first due one of a level, by rows and places and by the store.
+  level-due : (t : ℕ) → t ≡ thresholdIn (m .head)
+      → first (passesBy (m .area) (m .cards) (DueBy t)) (itemsIn (length (m .cards)) (m .lists) (m .head) n) ≡ first (due s) (level s n)
   level-due t e =
-      let same : t ≡ s .threshold = e ∙ sym (b .threshold) in
-      rw (same, b .levels n k)
-      (first-same (passesBy cards (Links (s .threshold))) (due s) (itemsIn (length cards) lists head n)
-      (λ i h. due-same s cards (b .linked) (getD (itemsIn (length cards) lists head n) i 0) (l .items n k i h)))
+      let same : t ≡ s .threshold = e ∙ sym (w .booked .threshold) in
+      rw (same, w .booked .levels n k)
+      (due-same s (m .area) (m .cards) (w .booked .linked) (w .reads) (itemsIn (length (m .cards)) (m .lists) (m .head) n))
 
-  pub due-here : (t p : ℕ) (r : Index) (ns : List ℕ) → t ≡ thresholdIn head → theIndex r ≡ first (passesBy cards (Links t)) (itemsIn (length cards) lists head n) → r ≡ At p
-      → dueIn s (n ∷ ns) ≡ some (record { on = n; place = p })
-  due-here t p r ns e f h = let g : first (due s) (level s n) ≡ some p = sym (level-due t e) ∙ sym f ∙ ap theIndex h in rw g
+  module _ (t : ℕ) (r : Index) (ns : List ℕ) (e : t ≡ thresholdIn (m .head))
+      (f : theIndex r ≡ first (passesBy (m .area) (m .cards) (DueBy t)) (itemsIn (length (m .cards)) (m .lists) (m .head) n)) where
+    pub due-here : (p : ℕ) → r ≡ At p → dueIn s (n ∷ ns) ≡ some (record { on = n; place = p })
+    due-here p h = let g : first (due s) (level s n) ≡ some p = sym (level-due t e) ∙ sym f ∙ ap theIndex h in rw g
 
-  pub due-turn : (t : ℕ) (r : Index) (ns : List ℕ) → t ≡ thresholdIn head → theIndex r ≡ first (passesBy cards (Links t)) (itemsIn (length cards) lists head n) → r ≡ Nothing
-      → dueIn s (n ∷ ns) ≡ dueIn s ns
-  due-turn t r ns e f h = let g : first (due s) (level s n) ≡ none = sym (level-due t e) ∙ sym f ∙ ap theIndex h in rw g
+    pub due-turn : r ≡ Nothing → dueIn s (n ∷ ns) ≡ dueIn s ns
+    due-turn h = let g : first (due s) (level s n) ≡ none = sym (level-due t e) ∙ sym f ∙ ap theIndex h in rw g

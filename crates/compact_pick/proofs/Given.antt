@@ -1,22 +1,20 @@
 -- Kept memory shows the store that the plan is made for. Piece by piece, by the laws of `book` and `read`.
-use mathlib.Core.Path.{_∙_, ap}
-use mathlib.Core.List.{[]}
-use lib.ListN.{length, getD}
+use mathlib.Core.Path.{ap}
 use Rattle.table.specs.Table.{entries}
 use Rattle.ldc.specs.Store.{table}
 use Rattle.ldc.specs.Lent.{Lent, storeOf}
 use Rattle.ldc.proofs.Lent.Shows.{sizes}
-use Rattle.book.proofs.Rows.{count-of}
+use Rattle.book.specs.Row.{linksIn}
+use Rattle.book.specs.Rows.{linksOn}
 use Rattle.book.proofs.Heads.{shown-threshold, shown-mark}
 use Rattle.read.specs.Shown.{Kept}
-use Rattle.read.proofs.Pieces.{bytes-shown, links-shown, row-good, row-eight, level-items}
-use Rattle.compact_pick.specs.Due.{Booked}
-use Rattle.compact_pick.specs.Plan.{ToldBy}
+use Rattle.read.proofs.Pieces.{bytes-shown, links-shown, level-items}
+use Rattle.compact_pick.specs.Due.{Booked, ToldBy}
 
 module _ (m : Lent) (k : Kept m) where
   booked : Booked (storeOf m) (m .cards) (m .lists) (m .head)
   booked = record {
-    linked = λ p h. ap length (links-shown m p) ∙ count-of (getD (m .cards) p []) (row-good m k p h) (row-eight m k p h);
+    linked = λ p. unfold linksOn linksIn in links-shown m p;
     levels = level-items m k;
     marks = shown-mark m;
     threshold = shown-threshold m;

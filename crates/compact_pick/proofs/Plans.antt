@@ -7,7 +7,7 @@ use mathlib.Core.Bool.{cond}
 use mathlib.Core.Option.{Option, some, none}
 use native.Mathlib.Omega.{arith}
 use lib.Dec.{ltb}
-use lib.ListN.{length, getD}
+use lib.ListN.{length}
 use borrow.Author.Tests.{ltb-true}
 use Rattle.ldc.specs.Lists.{first, isEmpty}
 use Rattle.ldc.specs.Store.{Store, level, links, lastLevel}
@@ -20,9 +20,8 @@ use Rattle.ldc.proofs.Steps.StepFacts.{fullest-some, due-merging, full-merging,
 use Rattle.ldc.specs.Facts.{Merging, Chosen}
 use Rattle.read.specs.Shown.{Listed}
 use Rattle.read.specs.Look.{Levels}
-use Rattle.read.proofs.Shows.{carded}
 use Rattle.read.proofs.Walks as walks
-use Rattle.compact_pick.specs.Due.{Items, Lists, Booked}
+use Rattle.compact_pick.specs.Due.{Items, Booked}
 use Rattle.compact_pick.specs.Level.{Short}
 use Rattle.compact_pick.specs.Plan.{levelPlan, planOf, planStep}
 use Rattle.compact_pick.specs.declared.Plan.{Plan}
@@ -55,11 +54,8 @@ module _ (area : List ℕ) (cards : List (List ℕ)) (lists head : List ℕ) (v 
   listed zero h = v .newest
   listed (suc n) h = v .rising n (omega arith) .listed
 
-  pub items : (n : ℕ) → n < levelCount → Items cards (itemsIn (length cards) lists head n)
-  items n h i l = carded area cards (v .legible) (getD (itemsIn (length cards) lists head n) i 0) (listed n h i l)
-
-  pub lists-of : Lists cards lists head
-  lists-of = record { few = v .legible .few; sized = v .sized; lengths = v .lengths; items = items }
+  pub items : (n : ℕ) → n < levelCount → Items area cards (itemsIn (length cards) lists head n)
+  items n h = record { legible = v .legible; listed = listed n h }
 
   pub short : Short head
   short n h = omega (arith, v .lengths n h, v .legible .few)

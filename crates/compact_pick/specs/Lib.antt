@@ -1,5 +1,5 @@
 -- What a reader of `compact_pick` must believe besides the definition of the store.
---   Due     what is asked of the cards, and a store as far as cards, lists and head say it
+--   Due     what is asked of a table, and a store as far as area, cards, lists and head say it
 --   Level   live tables by the head's words
 --   Plan    the plan of a store: which table goes down or is merged, before it is known whether there is room
 pub mod Due

@@ -4,29 +4,16 @@ use mathlib.Core.Path.{_≡_}
 use mathlib.Core.List.{List}
 use mathlib.Core.Option.{Option, some, none}
 use lib.ListN.{length, getD}
-use Rattle.table.specs.Table.{entries, placeOf}
 use Rattle.ldc.specs.Lists.{first, isEmpty}
-use Rattle.ldc.specs.Store.{Store, links, table, level, mark}
-use Rattle.ldc.specs.Lent.{Lent}
+use Rattle.ldc.specs.Store.{Store, links, level, mark}
 use Rattle.ldc.specs.Tidy.{Step, idle, Spot, dueTable, overfull, round, mergeStep, downStep}
-use Rattle.read.specs.Shown.{Listed}
-use Rattle.compact_pick.specs.Due.{Items, Linked, Booked}
+use Rattle.compact_pick.specs.Due.{Items, Reads, Linked}
 use Rattle.compact_pick.specs.declared.Plan.{Plan}
 use Rattle.compact_pick.specs.declared.Plan.the-variants.{Idle, Down, Merge}
 
--- A store whose tables are those of this area.
-abbrev pub Reads : Store → (area : List ℕ) → Type 0
-Reads s area = (p : ℕ) → table s p ≡ entries (placeOf area p)
-
--- A store as far as these pieces say it. The memory table is not asked.
-pub record ToldBy (s : Store) (m : Lent) : Type 0 where
-  pub reads : Reads s (m .area)
-  pub booked : Booked s (m .cards) (m .lists) (m .head)
-
--- Items of a level to choose from: tables with cards, at least one.
+-- Items of a level to choose from: at least one.
 pub record Choices (area : List ℕ) (cards : List (List ℕ)) (items : List ℕ) : Type 0 where
-  pub listed : Listed area items
-  pub carded : Items cards items
+  pub carded : Items area cards items
   pub some-item : 0 < length items
 
 -- A store of whose level n these are the items and the mark.

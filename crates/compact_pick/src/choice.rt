@@ -8,7 +8,8 @@ ghost use Rattle.ldc.specs.Store.{Store};
 ghost use Rattle.ldc.specs.Tidy as tidy;
 ghost use Rattle.book.specs.Head.{theMark};
 ghost use Rattle.read.specs.Shown.{Listed};
-ghost use Rattle.compact_pick.specs.Plan.{Reads, Choices, OnLevel, levelPlan};
+ghost use Rattle.compact_pick.specs.Due.{Reads};
+ghost use Rattle.compact_pick.specs.Plan.{Choices, OnLevel, levelPlan};
 use super::Plan;
 use super::due;
 use super::due::Wanted;
@@ -70,10 +71,10 @@ pub fn choose(area: &[u8], cards: &[Row], items: &[u16], after: Mark, n: usize) 
         ⌝ }
 {
     let k = find_start(area, items, after);
-    if let Index::At(p) = due::find_table(cards, &items[k..], Wanted::Bare) {
+    if let Index::At(p) = due::find_table(area, cards, &items[k..], Wanted::Bare) {
         return Plan::Down(n, p);
     }
-    if let Index::At(p) = due::find_table(cards, &items[..k], Wanted::Bare) {
+    if let Index::At(p) = due::find_table(area, cards, &items[..k], Wanted::Bare) {
         return Plan::Down(n, p);
     }
     Plan::Merge(n, pick_first(items, k))

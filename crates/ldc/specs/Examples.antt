@@ -1,9 +1,9 @@
--- The checked examples P1 to P10 of document 01, as one table: what the definition computes beside what document 01 says; and a
--- second table with a case for each slip. `proofs/Demand/Examples` shows that each row agrees. What is expected stands in plain
--- numbers, as in document 01.
+-- The checked examples P1 to P10 of document 01, and one for note 2 of document 02, as one table: what the definition computes beside
+-- what the papers say; and a second table with a case for each slip. `proofs/Demand/Examples` shows that each row agrees. What is
+-- expected stands in plain numbers, as in document 01.
 use Prim.Native.Nat.{ℕ, zero, suc, _+_, _-_, _%_}
 use mathlib.Core.List.{List, [], _∷_, _++_, map}
-use mathlib.Core.Bool.{Bool, true, _&&_}
+use mathlib.Core.Bool.{Bool, true, cond, _&&_}
 use mathlib.Core.Option.{some, none, Option·getD}
 use lib.ListN.{length, getD, replicate}
 use Rattle.coding.specs.Number.{bytesOf}
@@ -11,10 +11,10 @@ use Rattle.table.specs.Limits.{placeSize}
 use Rattle.table.specs.Entry.{Entry}
 use Rattle.table.specs.Table.{tableBytes, zeros}
 use Rattle.ldc.specs.Lists.{flat}
-use Rattle.ldc.specs.Store.{Link, Card, Store, free, live, frozen, newStore, card, level, table}
+use Rattle.ldc.specs.Store.{Link, Card, Store, free, live, frozen, newStore, card, links, level, table}
 use Rattle.ldc.specs.Request.{putKind, deleteKind, lookUpKind, flushKind, tidyKind, memoryFull, keySize}
 use Rattle.ldc.specs.Request.{Request, Served, replyBytes, done}
-use Rattle.ldc.specs.Tidy.{Slice, overfull, slicesOf, greatest}
+use Rattle.ldc.specs.Tidy.{Slice, due, overfull, slicesOf, greatest}
 use Rattle.ldc.specs.Steps.{doLink, sameBytes}
 use Rattle.ldc.specs.Serve.{serve}
 use Rattle.ldc.specs.History.{fed}
@@ -121,6 +121,20 @@ sixteen = map askPut (0 ∷ 1 ∷ 2 ∷ 3 ∷ 4 ∷ 5 ∷ 6 ∷ 7 ∷ 8 ∷ 9 �
 abbrev movedP6 : Served
 movedP6 = from (new 4) (askPut 1 ∷ askFlush ∷ askPut 2 ∷ askFlush ∷ askPut 3 ∷ askFlush ∷ askTidy ∷ [])
 
+-- T is 8; level 1 has a table of 3 entries in place 0, and level 0 four tables, the older two with 1 and 2 entries.
+abbrev weighing : Store
+weighing =
+    plantedWith 8
+    (tableOf (10 ∷ 20 ∷ 30 ∷ []) ∷ tableOf (15 ∷ []) ∷ tableOf (16 ∷ 25 ∷ []) ∷ tableOf (40 ∷ []) ∷ tableOf (50 ∷ []) ∷ [])
+    (replicate 5 (live []))
+    ((1 ∷ 2 ∷ 3 ∷ 4 ∷ []) ∷ (0 ∷ []) ∷ [] ∷ [] ∷ [])
+
+-- After some tidies: the last reply, whether place 0's merge is due, and its links' numbers.
+abbrev weighed : ℕ → List ℕ
+weighed n =
+    let v : Served = from weighing (replicate n askTidy) in
+    reply v ++ (cond (due (v .store) 0) 1 0 ∷ map (λ (l : Link). l .number) (links (v .store) 0))
+
 unfoldable pub examples : List Example
 examples =
     -- P1 look up in a new store: 64
@@ -154,6 +168,10 @@ examples =
     -- P10 levels holding 3 of 2 and 12 of 8: level 0; with 13 of 8, level 1
     ∷ record { computed = relieved (crowded 3 12); expected = 0 ∷ 0 ∷ 2 ∷ 0 ∷ 0 ∷ 0 ∷ [] }
     ∷ record { computed = relieved (crowded 3 13); expected = 1 ∷ 0 ∷ 1 ∷ 0 ∷ 1 ∷ 0 ∷ [] }
+    -- document 02, note 2: T = 8, a table of 3 entries, slices of 1 and 2: due by weight at the second link and not at the first
+    ∷ record { computed = weighed 1; expected = 0 ∷ 2 ∷ 0 ∷ 0 ∷ 0 ∷ 0 ∷ 1 ∷ [] }
+    ∷ record { computed = weighed 2; expected = 0 ∷ 2 ∷ 0 ∷ 0 ∷ 0 ∷ 1 ∷ 1 ∷ 2 ∷ [] }
+    ∷ record { computed = weighed 3; expected = 0 ∷ 3 ∷ 0 ∷ 1 ∷ 0 ∷ 0 ∷ [] }
     ∷ []
 
 -- ---- the slips that this store invites (document 01), each with a case that it would get wrong
@@ -164,8 +182,9 @@ entry k v = record { key = k; value = some (v ∷ []) }
 abbrev deleted : ℕ → Entry
 deleted k = record { key = k; value = none }
 
-abbrev linkTo : ℕ → ℕ → ℕ → Link
-linkTo p low high = record { place = p; low = low; high = high }
+-- A link to one entry of a place.
+abbrev single : (place low high : ℕ) → Link
+single p low high = record { place = p; low = low; high = high; number = 1 }
 
 -- Keys of the first table of a level.
 abbrev firstKeys : Store → ℕ → List ℕ
@@ -183,7 +202,7 @@ slips =
     ∷ record {
       computed = reply (from (plantedWith 1
           ((entry 5 65 ∷ []) ∷ (deleted 5 ∷ []) ∷ (entry 9 66 ∷ []) ∷ [])
-          (live [] ∷ live (linkTo 2 0 greatest ∷ []) ∷ frozen ∷ [])
+          (live [] ∷ live (single 2 0 greatest ∷ []) ∷ frozen ∷ [])
           ([] ∷ [] ∷ (1 ∷ []) ∷ (0 ∷ []) ∷ [])) (askTidy ∷ askLookUp 5 ∷ []));
       expected = 64 ∷ [];
     }
@@ -191,7 +210,7 @@ slips =
     ∷ record {
       computed = firstKeys (from (plantedWith 1
           (tableOf (10 ∷ 20 ∷ []) ∷ tableOf (30 ∷ 40 ∷ []) ∷ tableOf (15 ∷ 35 ∷ []) ∷ [])
-          (live (linkTo 2 0 20 ∷ []) ∷ live (linkTo 2 21 greatest ∷ []) ∷ frozen ∷ [])
+          (live (single 2 0 20 ∷ []) ∷ live (single 2 21 greatest ∷ []) ∷ frozen ∷ [])
           ([] ∷ (0 ∷ 1 ∷ []) ∷ [] ∷ [] ∷ [])) (askTidy ∷ []) .store) 1;
       expected = 10 ∷ 15 ∷ 20 ∷ [];
     }
@@ -199,7 +218,7 @@ slips =
     ∷ record {
       computed = reply (from (plantedWith 4
           (tableOf (5 ∷ []) ∷ (entry 7 65 ∷ []) ∷ (entry 7 66 ∷ []) ∷ [])
-          (live (linkTo 1 0 greatest ∷ linkTo 2 0 greatest ∷ []) ∷ frozen ∷ frozen ∷ [])
+          (live (single 1 0 greatest ∷ single 2 0 greatest ∷ []) ∷ frozen ∷ frozen ∷ [])
           ([] ∷ (0 ∷ []) ∷ [] ∷ [] ∷ [])) (askLookUp 7 ∷ []));
       expected = 0 ∷ 66 ∷ [];
     }

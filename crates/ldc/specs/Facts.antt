@@ -29,7 +29,7 @@ pub record Merging (s : Store) (n p : ℕ) : Type 0 where
 abbrev pub Oldest : Store → (level place : ℕ) → Type 0
 Oldest s n p = n ≡ 0 → (qs : List ℕ) × (level s 0 ≡ p ∷ qs)
 
--- A table chosen from levels 0 to 2 has no links, on level 0 it is the oldest, and no table below is due.
+-- A table chosen from levels 0 to 2 has no links, on level 0 it is the oldest, and no table below has T links.
 pub record Chosen (s : Store) (n p : ℕ) : Type 0 where
   pub highest : n ≤ 2
   pub on : List·Memᴰ p (level s n)

@@ -8,6 +8,7 @@ use lib.Dec.{leb, eqb}
 use lib.ListN.{length, take, drop}
 use Rattle.coding.specs.Number.{numberAt}
 use Rattle.table.specs.Entry.{Entry, lengthAt}
+use Rattle.table.specs.Table.{entries}
 use Rattle.table.specs.Search.{find}
 use Rattle.ldc.specs.Lists.{any, keep}
 use Rattle.ldc.specs.Store.{Link, Store, newStore, card, links, isFrozen, bytesAt, within}
@@ -17,6 +18,7 @@ use Rattle.ldc.specs.Request.{Request, replyBytes, keyIn, highIn, valueI
 use Rattle.ldc.specs.Memtable.{put}
 use Rattle.ldc.specs.Read.{valueOf, scanBody}
 use Rattle.ldc.specs.Tidy.{Slice, Step, idle, refused, moved, linked, merged, tidyStep}
+use Rattle.ldc.specs.Steps.{linkTo}
 use Rattle.ldc.specs.Serve.{serve}
 use Rattle.ldc.specs.Run.{Outcome, run, split, make}
 
@@ -133,8 +135,9 @@ abbrev pub requestsIn : List Event → List Request
 requestsIn [] = []
 requestsIn (e ∷ es) = e .request ∷ requestsIn es
 
+-- The link to an unmerged slice: its number is that of the entries in its range of the bytes held when linked.
 abbrev pub linkOf : Unmerged → Link
-linkOf u = record { place = u .slice .place; low = u .slice .low; high = u .slice .high }
+linkOf u = linkTo (entries (u .held)) (u .slice)
 
 -- The claim about the replies and the memory at the end of a history, given the slice list: `m` is what is lent at the end.
 pub record Holds (m : Lent) (threshold : ℕ) (es : List Event) (us : List Unmerged) : Type 0 where
@@ -146,7 +149,7 @@ pub record Holds (m : Lent) (threshold : ℕ) (es : List Event) (us : List Unmer
   pub frozen : (p : ℕ) → p < placesIn (m .area) → isFrozen (card (storeOf m) p) ≡ any (λ u. eqb (u .slice .place) p) us
   -- a frozen place has the bytes that it held when linked
   pub kept : (u : Unmerged) → List·Memᴰ u us → bytesAt (storeOf m) (u .slice .place) ≡ u .held
-  -- a card's links are the slices that hang on its place, oldest first: on every place, so none hangs where no live table stands
+  -- a card's links are the slices that hang on its place, oldest first, their numbers too: on every place, so none hangs where no live table stands
   pub carried : (p : ℕ) → links (storeOf m) p ≡ map linkOf (keep (hangsOn p) us)
   -- never more than T slices hang on a table, nor links on its card
   pub few : (p : ℕ) → length (keep (hangsOn p) us) ≤ threshold

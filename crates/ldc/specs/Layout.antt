@@ -32,7 +32,7 @@ abbrev pub rowHead : ℕ
 rowHead = 2
 
 abbrev pub linkSize : ℕ
-linkSize = 3
+linkSize = 4
 
 abbrev pub rowSize : ℕ
 rowSize = rowHead + linkSize * linkLimit
@@ -59,7 +59,8 @@ linkStart i = rowHead + linkSize * i
 
 -- The link whose words stand at a position, and the i-th of a row.
 abbrev pub linkFrom : List ℕ → (at : ℕ) → Link
-linkFrom row at = record { place = getD row at 0; low = getD row (at + 1) 0; high = getD row (at + 2) 0 }
+linkFrom row at =
+    record { place = getD row at 0; low = getD row (at + 1) 0; high = getD row (at + 2) 0; number = getD row (at + 3) 0 }
 
 unfoldable pub linkAt : List ℕ → (i : ℕ) → Link
 linkAt row i = linkFrom row (linkStart i)
@@ -82,7 +83,7 @@ stateWord frozen = frozenState
 
 abbrev pub linkWords : List Link → List ℕ
 linkWords [] = []
-linkWords (l ∷ ls) = l .place ∷ l .low ∷ l .high ∷ linkWords ls
+linkWords (l ∷ ls) = l .place ∷ l .low ∷ l .high ∷ l .number ∷ linkWords ls
 
 -- The row of a card; words not in use are zero.
 unfoldable pub rowOf : Card → List ℕ

@@ -3,6 +3,7 @@ use Prim.Native.Nat.{ℕ}
 use mathlib.Core.List.{List, [], _∷_, _++_, map}
 use mathlib.Core.Bool.{Bool, true, cond, not, _&&_, _||_, Bool·beq}
 use lib.Dec.{leb, ltb, eqb}
+use lib.ListN.{length}
 use Rattle.table.specs.Table.{isTable}
 use Rattle.ldc.specs.Lists.{all, any, howMany, isEmpty, flat, allFrom}
 use Rattle.ldc.specs.Store.{Link, Store, size, card, links, linksOf, isFree, isLive, isFrozen, bytesAt, level, slice, spanStart, spanEnd}
@@ -28,10 +29,12 @@ ruleB s =
 unfoldable pub ruleC : Store → Bool
 ruleC s = allFrom (size s) 0 (λ p. isFree (card s p) || isTable (bytesAt s p))
 
--- E: links hang only on levels 1 to 3; low is not above high; each names a frozen place and holds at least one of its entries;
--- links naming one place share no key and hang on one level.
+-- E: links hang only on levels 1 to 3; low is not above high; each names a frozen place and holds at least one of its entries; its number
+-- is that of the place's entries in its range; links naming one place share no key and hang on one level.
 unfoldable pub linkGood : Store → Link → Bool
-linkGood s l = leb (l .low) (l .high) && (isFrozen (card s (l .place)) && not (isEmpty (slice s l)))
+linkGood s l =
+    leb (l .low) (l .high)
+    && (isFrozen (card s (l .place)) && (not (isEmpty (slice s l)) && eqb (l .number) (length (slice s l))))
 
 -- A link with the level of the table that it hangs on.
 pub record Hung : Type 0 where

@@ -4,10 +4,11 @@ use mathlib.Core.List.{List, [], _∷_, _++_, map}
 use mathlib.Core.Bool.{Bool, true, false, cond, _&&_}
 use mathlib.Core.Option.{Option, some}
 use lib.Dec.{eqb}
-use lib.ListN.{set}
+use lib.ListN.{length, set}
 use Rattle.coding.specs.Number.{bytesOf}
+use Rattle.table.specs.Entry.{Entry}
 use Rattle.table.specs.Search.{greatestKey}
-use Rattle.ldc.specs.Store.{free, live, frozen, Store, level, links, table, withCard, withLevel, withMarks}
+use Rattle.ldc.specs.Store.{Link, free, live, frozen, Store, level, links, table, within, withCard, withLevel, withMarks}
 use Rattle.ldc.specs.Rules.{named}
 use Rattle.ldc.specs.Request.{Served, noRoom, nothingToDo, done, only}
 use Rattle.ldc.specs.Place.{writtenAll, placesTaken}
@@ -31,14 +32,17 @@ leaves n p s = withLevel n (replaced p [] (level s n)) (withMarks (marksAfter n 
 unfoldable pub doMove : (level place : ℕ) → Store → Store
 doMove n p s = withLevel (suc n) (p ∷ []) (leaves n p s)
 
+-- The link to a slice of a table with these entries: its number is that of the entries in its range.
+abbrev pub linkTo : List Entry → Slice → Link
+linkTo es r = record { place = r .place; low = r .low; high = r .high; number = length (within (r .low) (r .high) es) }
+
 -- Link: each table below that is responsible for an entry gains a link, the newest; the chosen table is frozen.
-abbrev pub hang : List Slice → Store → Store
-hang [] s = s
-hang (r ∷ rs) s =
-    hang rs (withCard (r .on) (live (links s (r .on) ++ (record { place = r .place; low = r .low; high = r .high } ∷ []))) s)
+abbrev pub hang : (chosen : List Entry) → List Slice → Store → Store
+hang es [] s = s
+hang es (r ∷ rs) s = hang es rs (withCard (r .on) (live (links s (r .on) ++ (linkTo es r ∷ []))) s)
 
 unfoldable pub doLink : (level place : ℕ) → List Slice → Store → Store
-doLink n p slices s = hang slices (withCard p frozen (leaves n p s))
+doLink n p slices s = hang (table s p) slices (withCard p frozen (leaves n p s))
 
 -- Of these places those that no link names any more are freed.
 abbrev pub release : List ℕ → Store → Store

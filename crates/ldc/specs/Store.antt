@@ -10,11 +10,12 @@ use Rattle.table.specs.Table.{entries}
 use Rattle.table.specs.Search.{leastKey, greatestKey}
 use Rattle.ldc.specs.Lists.{keep}
 
--- A slice link: a frozen place and a key range, both ends included.
+-- A slice link: a frozen place, a key range, both ends included, and the number of the place's entries in that range.
 pub record Link : Type 0 where
   pub place : ℕ
   pub low : ℕ
   pub high : ℕ
+  pub number : ℕ
 
 -- What is noted of a place. A live table's card also holds its links, oldest first.
 pub data Card : Type 0 where

@@ -1,7 +1,7 @@
 -- Tidy: what step is due. It is named first and done afterwards (`Step`); reply, store and slice list come from that one name.
-use Prim.Native.Nat.{ℕ, zero, suc, _*_, _^_, _-_}
+use Prim.Native.Nat.{ℕ, zero, suc, _+_, _*_, _^_, _-_}
 use mathlib.Core.List.{List, [], _∷_, _++_, map}
-use mathlib.Core.Bool.{Bool, true, cond, not}
+use mathlib.Core.Bool.{Bool, true, cond, not, _||_}
 use mathlib.Core.Option.{Option, some, none}
 use lib.Dec.{leb, ltb, eqb}
 use lib.ListN.{length, getD, take, drop}
@@ -9,7 +9,7 @@ use Rattle.table.specs.Limits.{tableLimit}
 use Rattle.table.specs.Entry.{Entry}
 use Rattle.table.specs.Search.{leastKey}
 use Rattle.ldc.specs.Lists.{keep, first, isEmpty}
-use Rattle.ldc.specs.Store.{Store, lastLevel, level, links, table, mark, sources, spanEnd, within}
+use Rattle.ldc.specs.Store.{Link, Store, lastLevel, level, links, table, mark, sources, spanEnd, within}
 use Rattle.ldc.specs.Read.{gather, holdsValue}
 use Rattle.ldc.specs.Place.{freePlaces}
 
@@ -56,9 +56,17 @@ mergeStep s n p = cond (leb (length (mergedTables s n p)) (freePlaces s)) (merge
 
 -- ---- the due merge
 
--- Is this table's merge due?
+-- The links' numbers, added up.
+abbrev pub weight : List Link → ℕ
+weight [] = 0
+weight (l ∷ ls) = l .number + weight ls
+
+-- A merge is due when a table has T links, or when its links' numbers add up to at least its own entry count.
+unfoldable pub dueWith : (threshold : ℕ) → List Link → (own : List Entry) → Bool
+dueWith t ls es = leb t (length ls) || leb (length es) (weight ls)
+
 unfoldable pub due : Store → ℕ → Bool
-due s p = leb (s .threshold) (length (links s p))
+due s p = dueWith (s .threshold) (links s p) (table s p)
 
 -- A level and a place on it.
 pub record Spot : Type 0 where

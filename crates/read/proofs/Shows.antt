@@ -1,5 +1,5 @@
 -- What legible area and cards show: tables are parts of the area, links are words of the rows.
-use Prim.Native.Nat.{ℕ, suc, _+_, _*_, _-_, _<_, max}
+use Prim.Native.Nat.{ℕ, suc, _+_, _*_, _-_, _≤_, _<_, max}
 use mathlib.Core.Path.{_≡_, sym, _∙_, ap}
 use mathlib.Core.Bool.{true}
 use mathlib.Core.List.{List, [], _∷_}
@@ -22,7 +22,8 @@ use Rattle.ldc.proofs.Stores.Spans.{Readable}
 use Rattle.ldc.specs.Layout.{linkCount, linkAt}
 use Rattle.book.proofs.Rows.{link-of, count-of}
 use Rattle.book.specs.Pieces.{lent}
-use Rattle.book.specs.Rows.{shownBy}
+use Rattle.book.specs.Row.{linksIn}
+use Rattle.book.specs.Rows.{linksOn, shownBy}
 use Rattle.read.specs.Shown.{Tabled, Legible}
 use Rattle.read.proofs.Pieces.{bytes-shown, links-shown}
 
@@ -42,6 +43,9 @@ pub place-valid : (area : List ℕ) (p : ℕ) → Bytes area → Tabled area p �
 unfolding isTable
 place-valid area p b t =
     shows-valid (placeOf area p) (bytes-take placeSize (drop (p * placeSize) area) (bytes-drop (p * placeSize) area b)) (place-long area p t) 1 (t .good)
+
+pub table-some : (area : List ℕ) (p : ℕ) → Tabled area p → 1 ≤ length (entries (placeOf area p))
+table-some area p t = omega (arith, length-entries (placeOf area p), table-good (placeOf area p) (t .good) .enough)
 
 -- ---- in a store that is shown
 
@@ -66,10 +70,14 @@ module _ (area : List ℕ) (cards : List (List ℕ)) (g : Legible area cards) wh
   readable p b t =
       record {
         keys = rw (table-shown p) (place-valid area p b t .keys);
-        some = rw (table-shown p) (omega (arith, length-entries (placeOf area p), table-good (placeOf area p) (t .good) .enough));
+        some = rw (table-shown p) (table-some area p t);
       }
 
   module _ (p : ℕ) (h : p < length cards) where
+    pub links-counted : length (linksOn cards p) ≡ linkCount (getD cards p [])
+    unfolding linksOn linksIn
+    links-counted = count-of (getD cards p []) (g .rowed p h) (g .counted p h)
+
     pub links-long : length (links (shownBy area cards) p) ≡ linkCount (getD cards p [])
     links-long = ap length (links-shown (lent area cards [] [] []) p) ∙ count-of (getD cards p []) (g .rowed p h) (g .counted p h)
 

@@ -1,4 +1,4 @@
-// One place of the area as a table: the searches of a table over its bytes.
+// One place of the area as a table: the searches and counts of a table over its bytes.
 ghost use mathlib.Core.Path.{_≡_};
 ghost use Prim.Native.Nat.{_+_, _*_, _≤_};
 ghost use lib.ListN.{length};
@@ -6,6 +6,7 @@ ghost use Rattle.table.specs.Limits.{placeSize, entryHead};
 ghost use Rattle.table.specs.Entry.{kindAt, keyAt};
 ghost use Rattle.table.specs.Table.{entries, placeOf};
 ghost use Rattle.table.specs.Search.{findIn, leastKey, greatestKey};
+ghost use Rattle.ldc.specs.Store.{within};
 ghost use Rattle.read.specs.Shown.{Tabled};
 use book::place::bytes_of;
 use coding::key::Key;
@@ -35,6 +36,22 @@ pub fn greatest(area: &[u8], p: usize) -> Key
     ensures { λ r. ⌜ r .value ≡ greatestKey (entries (placeOf (now (area .entry)) p)) ⌝ }
 {
     search::greatest(bytes_of(area, p))
+}
+
+// How many entries it has.
+pub fn count(area: &[u8], p: usize) -> usize
+    requires { ⌜ Tabled (now area) p ⌝ }
+    ensures { λ r. ⌜ r ≡ length (entries (placeOf (now (area .entry)) p)) ⌝ }
+{
+    search::count(bytes_of(area, p))
+}
+
+// How many of them have keys from low to high, both included.
+pub fn count_within(area: &[u8], p: usize, low: Key, high: Key) -> usize
+    requires { ⌜ Tabled (now area) p ⌝ }
+    ensures { λ r. ⌜ r ≡ length (within (low .value) (high .value) (entries (placeOf (now (area .entry)) p))) ⌝ }
+{
+    search::count_within(bytes_of(area, p), low, high)
 }
 
 // The kind of the entry at a position.

@@ -6,7 +6,7 @@
 --   Room       what can be reached in a place
 --   Turn       one turn of the loops
 --   Found      a search of the bytes is a search of the entries
---   Entries    how many entries a place shows, the i-th, the first and the last
+--   Entries    how many entries a place shows, also of a range, the i-th, the first and the last
 --   Bounds     keys between the least and the greatest
 --   Writes     what the code writes is what the definitions give
 --   Decode     decode after encode

@@ -12,7 +12,7 @@ use Rattle.coding.specs.Number.{numberAt}
 use Rattle.table.specs.Limits.{tableHead, tableLimit}
 use Rattle.table.specs.Entry.{lengthAt, kindAt, keyAt, entryForm}
 use Rattle.table.specs.Table.{countOf, zeros, entriesAt, entriesGood, allZero, tableGood}
-use Rattle.table.specs.Search.{countBelow}
+use Rattle.table.specs.Search.{countBelow, countWithin}
 use Rattle.table.proofs.Found.{entryAt-key}
 
 -- All bytes from i on are zero if the one at i is, and all behind it.
@@ -50,6 +50,23 @@ below-turn k n i s at h =
 pub below-end : (k n i : ℕ) (s : List ℕ) (at : ℕ) → n ≤ i → countBelow k (entriesAt (n - i) s at) ≡ 0
 unfolding entriesAt countBelow
 below-end k n i s at h = let e : n - i ≡ 0 = omega arith in rw e
+
+-- As many keys of the entries from the i-th on lie in a range as this one's and those behind it; where none is left, none does.
+counted-one : (b : Bool) (n : ℕ) → cond b (suc n) n ≡ cond b 1 0 + n
+counted-one true n = omega arith
+counted-one false n = omega arith
+
+pub within-turn : (low high n i : ℕ) (s : List ℕ) (at : ℕ) → i < n
+    → countWithin low high (entriesAt (n - i) s at)
+    ≡ cond (leb low (keyAt s at) && leb (keyAt s at) high) 1 0 + countWithin low high (entriesAt (n - (i + 1)) s (at + lengthAt s at))
+unfolding entriesAt countWithin
+within-turn low high n i s at h =
+    let e : n - i ≡ suc (n - (i + 1)) = omega arith in
+    rw (e, entryAt-key s at) (counted-one (leb low (keyAt s at) && leb (keyAt s at) high) _)
+
+pub within-end : (low high n i : ℕ) (s : List ℕ) (at : ℕ) → n ≤ i → countWithin low high (entriesAt (n - i) s at) ≡ 0
+unfolding entriesAt countWithin
+within-end low high n i s at h = let e : n - i ≡ 0 = omega arith in rw e
 
 -- A table is good if its head is, its entries are and the rest is zero.
 pub good-head : (fewest : ℕ) (s : List ℕ)

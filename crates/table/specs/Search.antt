@@ -1,7 +1,8 @@
--- First matches in a list of entries, and where in a place's bytes they stand. No definition uses that keys rise; the code does.
+-- First matches in a list of entries, how many lie in a range, and where in a place's bytes they stand. No definition
+-- uses that keys rise; the code does.
 use Prim.Native.Nat.{ℕ, zero, suc, _+_}
 use mathlib.Core.List.{List, [], _∷_}
-use mathlib.Core.Bool.{cond}
+use mathlib.Core.Bool.{cond, _&&_}
 use mathlib.Core.Option.{Option, some, none}
 use lib.Dec.{leb, eqb}
 use Rattle.table.specs.Limits.{tableHead}
@@ -24,6 +25,12 @@ firstFrom k (e ∷ es) = cond (leb k (e .key)) (some e) (firstFrom k es)
 unfoldable pub countBelow : (key : ℕ) → List Entry → ℕ
 countBelow k [] = 0
 countBelow k (e ∷ es) = cond (leb k (e .key)) 0 (suc (countBelow k es))
+
+-- How many entries have keys from low to high, both included.
+unfoldable pub countWithin : (low high : ℕ) → List Entry → ℕ
+countWithin low high [] = 0
+countWithin low high (e ∷ es) =
+    cond (leb low (e .key) && leb (e .key) high) (suc (countWithin low high es)) (countWithin low high es)
 
 -- The key of the first entry, and of the last.
 unfoldable pub leastKey : List Entry → ℕ

@@ -1,7 +1,7 @@
 //! The faults that can be planted in a run: STANDIN_FAULT names one of the list below, a slip of the second implementation,
 //! or `result:FROM:TO` or `number:FROM:TO`. STANDIN_RARE=N plants it in one of N runs only.
 
-use reference::lent::Row;
+use reference::lent::{Row, LINK_NUMBER, ROW_COUNT, ROW_LINKS, ROW_WORDS};
 use reference::slip::Slip;
 use std::sync::atomic::{AtomicU64, Ordering};
 use std::sync::OnceLock;
@@ -121,7 +121,16 @@ const FAULTS: &[Fault] = &[
     ("head_mark", |done| done.head[5] ^= u64::from(done.number == 0)),
     ("memory_rest", |done| done.memory[1023] ^= u8::from(done.number == 0)),
     ("row_rest", |done| {
-        done.cards.iter_mut().take(1).for_each(|row| row[25] ^= u64::from(done.number == 0));
+        done.cards
+            .iter_mut()
+            .take(1)
+            .for_each(|row| row[ROW_WORDS - 1] ^= u64::from(done.number == 0));
+    }),
+    ("link_number", |done| {
+        let linked = done.cards.iter_mut().find(|row| row[ROW_COUNT] > 0);
+        linked.into_iter().for_each(|row| {
+            row[ROW_LINKS + LINK_NUMBER] ^= u64::from(done.number == 0);
+        });
     }),
     ("list_item", |done| {
         done.lists.iter_mut().rev().take(1).for_each(|item| *item ^= u16::from(done.number == 0));
@@ -131,7 +140,10 @@ const FAULTS: &[Fault] = &[
     ("letter_wide", |done| done.outcome[0] |= u64::from(done.number == 5) << 32),
     ("refused_writes_memory", |done| done.memory[1023] ^= u8::from(done.number != 0)),
     ("refused_writes_card", |done| {
-        done.cards.iter_mut().take(1).for_each(|row| row[25] ^= u64::from(done.number != 0));
+        done.cards
+            .iter_mut()
+            .take(1)
+            .for_each(|row| row[ROW_WORDS - 1] ^= u64::from(done.number != 0));
     }),
     ("refused_writes_answer", |done| {
         spoil_byte(done.answers.first_mut().filter(|_| done.number != 0));

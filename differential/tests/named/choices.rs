@@ -2,9 +2,10 @@
 
 use crate::client::{digits, Ask, Client, Reply};
 
-/// Nine tables on level 1, one more than its capacity, with keys 100 to 180 in places 0 to 8; one on level 2 in place 9.
+/// Nine tables on level 1, one more than its capacity, with keys 100 and 103 to 180 and 183 in places 0 to 8; one on level 2 in
+/// place 9. With two entries none is due at a link that holds one.
 fn nine_tables(threshold: u64) -> Client {
-    let keys: Vec<[u64; 1]> = (0..9).map(|table| [100 + 10 * table]).collect();
+    let keys: Vec<[u64; 2]> = (0..9).map(|table| [100 + 10 * table, 103 + 10 * table]).collect();
     let mut tables: Vec<(usize, &[u64])> = keys.iter().map(|key| (1, &key[..])).collect();
     tables.push((2, &[500]));
     Client::with_tables(32, threshold, &tables)
@@ -16,11 +17,11 @@ fn mark(mut store: Client, key: u64) -> Client {
     store
 }
 
-/// Tidies; the table in this place is linked down and its key becomes the mark.
+/// Tidies; the table in this place is linked down and its greatest key becomes the mark.
 fn is_linked(mut store: Client, place: usize) {
     assert_eq!(store.ask_one(Ask::Tidy), Reply::Step(2, 1));
     assert_eq!(store.lent.cards[place][0], 2, "place {place} is not the one");
-    assert_eq!(store.lent.head[2..6], [1, 100 + 10 * place as u64, 0, 0]);
+    assert_eq!(store.lent.head[2..6], [1, 103 + 10 * place as u64, 0, 0]);
 }
 
 #[test]
@@ -50,7 +51,7 @@ fn the_choice_passes_tables_with_links_and_goes_round() {
 
 #[test]
 fn where_all_have_links_the_first_behind_the_mark_is_merged() {
-    // Each span begins five below its table's key: the choice goes by own keys and begins at 130.
+    // Each span begins five below its table's least key: the choice goes by own keys and begins at 130.
     let frozen: Vec<u64> = (0..9).map(|table| 96 + 10 * table).collect();
     let links: Vec<(usize, u64, u64)> =
         (0..9).map(|table| (table, 95 + 10 * table as u64, 100 + 10 * table as u64)).collect();

@@ -2,7 +2,7 @@
 //! hand. Nothing here comes from the second implementation but the container of the lent memory; the tests take its limits.
 
 use differential::{check, make, run, Outcome};
-use reference::lent::Lent;
+use reference::lent::{Lent, LINK_WORDS, ROW_COUNT, ROW_LINKS};
 
 pub const GREATEST: u64 = u64::MAX;
 
@@ -160,7 +160,8 @@ impl Client {
         client
     }
 
-    /// Adds a frozen table in a free place, with links on live places: place, low, high.
+    /// Adds a frozen table in a free place, with links on live places: place, low, high. Each link's number is that of the
+    /// entries in its range.
     pub fn freeze(
         mut self,
         place: usize,
@@ -171,10 +172,12 @@ impl Client {
         lent.area[place * 1024..(place + 1) * 1024].copy_from_slice(&table_of(entries));
         lent.cards[place][0] = 2;
         for (on, low, high) in links {
+            let number = entries.iter().filter(|(key, _)| low <= key && key <= high).count();
             let card = &mut lent.cards[*on];
-            let word = 2 + 3 * card[1] as usize;
-            card[word..word + 3].copy_from_slice(&[place as u64, *low, *high]);
-            card[1] += 1;
+            let word = ROW_LINKS + LINK_WORDS * card[ROW_COUNT] as usize;
+            let link = [place as u64, *low, *high, number as u64];
+            card[word..word + LINK_WORDS].copy_from_slice(&link);
+            card[ROW_COUNT] += 1;
         }
         assert_eq!(check(lent), (0, 0), "put together wrongly");
         self
@@ -223,6 +226,22 @@ impl Client {
         let mut asks: Vec<Ask> = keys.into_iter().map(|key| Ask::Put(key, value)).collect();
         asks.push(Ask::Flush);
         assert!(self.ask(&asks).iter().all(|reply| *reply == Reply::Done));
+    }
+
+    /// Check and run refuse the store by this letter and change nothing; no other rule is broken.
+    pub fn breaks(mut self, letter: u8) {
+        let before = self.lent.clone();
+        assert_eq!(check(&self.lent), (5, u64::from(letter)));
+        let (outcome, _) = self.run(&list(&[Ask::LookUp(5)]), 1024);
+        assert_eq!((outcome.number, outcome.letter), (5, u64::from(letter)));
+        assert_eq!((outcome.served, outcome.written), (0, 0));
+        assert_eq!(self.lent.difference(&before), None);
+    }
+
+    /// The links on a card, oldest first: place, low, high and number.
+    pub fn links(&self, place: usize) -> Vec<[u64; LINK_WORDS]> {
+        let words = self.lent.links(place);
+        words.map(|link| link.try_into().expect("the words of a link")).collect()
     }
 
     /// Places of a level's list.

@@ -35,7 +35,7 @@ fn p6_the_oldest_of_three_tables_moves() {
 }
 
 /// Three tables below in places 0 to 2, on level 0 the chosen one in place 3 and two newer.
-fn p7(threshold: u64, chosen: &[u64]) -> Client {
+pub fn p7(threshold: u64, chosen: &[u64]) -> Client {
     let below: [(usize, &[u64]); 3] = [(1, &[10, 20]), (1, &[30, 40]), (1, &[50, 60])];
     let above: [(usize, &[u64]); 3] = [(0, chosen), (0, &[1]), (0, &[2])];
     Client::with_tables(32, threshold, &[below, above].concat())
@@ -45,9 +45,9 @@ fn p7(threshold: u64, chosen: &[u64]) -> Client {
 fn p7_three_links_cover_all_keys() {
     let mut store = p7(4, &[5, 25, 70]);
     assert_eq!(store.ask_one(Ask::Tidy), Reply::Step(2, 0));
-    assert_eq!(store.lent.cards[0][..8], [1, 1, 3, 0, 20, 0, 0, 0]);
-    assert_eq!(store.lent.cards[1][..8], [1, 1, 3, 21, 40, 0, 0, 0]);
-    assert_eq!(store.lent.cards[2][..8], [1, 1, 3, 41, GREATEST, 0, 0, 0]);
+    assert_eq!(store.lent.cards[0][..8], [1, 1, 3, 0, 20, 1, 0, 0]);
+    assert_eq!(store.lent.cards[1][..8], [1, 1, 3, 21, 40, 1, 0, 0]);
+    assert_eq!(store.lent.cards[2][..8], [1, 1, 3, 41, GREATEST, 1, 0, 0]);
     assert_eq!(store.lent.cards[3][..8], [2, 0, 0, 0, 0, 0, 0, 0]);
     assert_eq!((store.level(0), store.level(1)), (&[4, 5][..], &[0, 1, 2][..]));
     assert_eq!(store.ask_one(Ask::Report), Reply::Counts([26, 2, 3, 0, 0, 1, 3, 0]));
@@ -57,7 +57,7 @@ fn p7_three_links_cover_all_keys() {
 fn p8_one_link_where_one_table_is_responsible() {
     let mut store = p7(4, &[5, 6]);
     assert_eq!(store.ask_one(Ask::Tidy), Reply::Step(2, 0));
-    assert_eq!(store.lent.cards[0][..8], [1, 1, 3, 0, 20, 0, 0, 0]);
+    assert_eq!(store.lent.cards[0][..8], [1, 1, 3, 0, 20, 2, 0, 0]);
     assert_eq!((store.lent.cards[1][1], store.lent.cards[2][1]), (0, 0));
 }
 

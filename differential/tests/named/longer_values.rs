@@ -91,26 +91,16 @@ fn full_tables() -> Client {
     store
 }
 
-/// Check and run refuse the store by this letter and change nothing; no other rule is broken.
-fn breaks(mut store: Client, letter: u8) {
-    let before = store.lent.clone();
-    assert_eq!(check(&store.lent), (5, u64::from(letter)));
-    let (outcome, _) = store.run(&list(&[Ask::LookUp(5)]), 1024);
-    assert_eq!((outcome.number, outcome.letter), (5, u64::from(letter)));
-    assert_eq!((outcome.served, outcome.written), (0, 0));
-    assert_eq!(store.lent.difference(&before), None);
-}
-
 #[test]
 fn an_entry_of_64_bytes_in_a_place_breaks_c() {
     for (place, first) in [(0, 0), (1, 4)] {
         let mut store = full_tables();
         store.lent.area[place * 1024..][..1024].copy_from_slice(&full_table(first, TOO_LONG));
-        breaks(store, b'C');
+        store.breaks(b'C');
         let mut store = full_tables();
         store.lent.area[place * 1024..][..1024]
             .copy_from_slice(&table_of(&[(7, Some(letters(TOO_LONG)))]));
-        breaks(store, b'C');
+        store.breaks(b'C');
     }
 }
 
@@ -118,10 +108,10 @@ fn an_entry_of_64_bytes_in_a_place_breaks_c() {
 fn an_entry_of_64_bytes_in_memory_breaks_d() {
     let mut store = full_tables();
     store.lent.memory = full_table(9, TOO_LONG);
-    breaks(store, b'D');
+    store.breaks(b'D');
     let mut store = full_tables();
     store.lent.memory = table_of(&[(7, Some(letters(TOO_LONG)))]);
-    breaks(store, b'D');
+    store.breaks(b'D');
 }
 
 #[test]

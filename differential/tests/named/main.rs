@@ -4,6 +4,8 @@ mod choices;
 mod client;
 mod examples;
 mod longer_values;
+mod merge_by_weight;
+mod numbers;
 mod reading;
 mod refusals;
 mod steps;

@@ -38,6 +38,9 @@ fn keys_0_and_greatest_are_ordinary() {
         [Reply::Done, Reply::Done]
     );
     look_at_both_ends(&mut store);
+    // Delete marks under keys between them make the table heavier than two slices of the ends.
+    store.ask(&[2, 3, 4].map(Ask::Delete));
+    look_at_both_ends(&mut store);
     assert_eq!(store.ask_one(Ask::Flush), Reply::Done);
     look_at_both_ends(&mut store);
     // Older ends move to level 1, and the newer ones hang on them as slices.
@@ -223,7 +226,8 @@ fn the_newer_entry_decides() {
 #[test]
 fn the_newest_link_is_read_first() {
     let mut store = Client::new(16, 4);
-    store.flush_table([100], "x");
+    // Heavier than the two slices together, so that these wait.
+    store.flush_table([100, 110, 120], "x");
     store.flush_table([5], "old");
     store.flush_table([5], "new");
     assert_eq!(store.ask_one(Ask::Tidy), Reply::Step(1, 0));
@@ -232,7 +236,7 @@ fn the_newest_link_is_read_first() {
     store.flush_table([7], "x");
     assert_eq!(store.ask_one(Ask::Tidy), Reply::Step(2, 0));
     // On the card they stand oldest first.
-    assert_eq!(store.lent.cards[0][..8], [1, 2, 1, 0, GREATEST, 2, 0, GREATEST]);
+    assert_eq!(store.lent.cards[0][..10], [1, 2, 1, 0, GREATEST, 1, 2, 0, GREATEST, 1]);
     assert_eq!(store.ask(&[Ask::LookUp(5), Ask::Scan(5, 5)]), [value("new"), found([5], "new", 0)]);
 }
 

@@ -1,6 +1,7 @@
 //! Flush and tidy: what they reply, and what they leave in the lent memory.
 
 use crate::client::{digits, marks, table, table_of, Ask, Client, Reply, GREATEST};
+use reference::lent::ROW_FREE;
 
 #[test]
 fn a_flush_writes_a_table_and_empties_the_memory() {
@@ -45,13 +46,13 @@ fn move_link_and_merge_in_turn() {
     store.flush_table([1, 9], "w");
     assert_eq!(store.ask_one(Ask::Tidy), Reply::Step(2, 0));
     assert_eq!((store.level(0), store.level(1)), (&[2, 3][..], &[0][..]));
-    assert_eq!(store.lent.cards[0][..5], [1, 1, 1, 0, u64::MAX]);
+    assert_eq!(store.lent.cards[0][..6], [1, 1, 1, 0, u64::MAX, 1]);
     assert_eq!(store.lent.cards[1][..2], [2, 0]);
     assert_eq!(store.ask_one(Ask::Tidy), Reply::Step(3, 1));
     // The result took place 4; places 0 and 1 are free and keep their bytes.
     assert_eq!((store.level(0), store.level(1)), (&[2, 3][..], &[4][..]));
     assert_eq!(store.lent.head[1], 5);
-    assert_eq!((store.lent.cards[0], store.lent.cards[1]), ([0; 26], [0; 26]));
+    assert_eq!((store.lent.cards[0], store.lent.cards[1]), (ROW_FREE, ROW_FREE));
     assert_eq!(store.lent.area[0..9], [21, 0, 32, 0, 1, 0, 0, 0, 13]);
     let merged =
         [34, 0, 32, 0, 2, 0, 0, 0, 13, 0, 1, 0, 1, 0, 0, 0, 0, 0, 0, 0, b'v', 13, 0, 1, 0, 2];
@@ -98,12 +99,13 @@ fn a_merge_above_level_3_keeps_delete_marks() {
 
 #[test]
 fn a_link_goes_by_the_spans_below() {
-    let tables: [(usize, &[u64]); 5] = [(1, &[10]), (1, &[50]), (0, &[25]), (0, &[1]), (0, &[2])];
+    let tables: [(usize, &[u64]); 5] =
+        [(1, &[10, 12, 14]), (1, &[50]), (0, &[25]), (0, &[1]), (0, &[2])];
     let store = Client::with_tables(16, 4, &tables);
     // The link's range makes the first table's span end at 30.
     let mut store = store.freeze(5, &digits(&[20]), &[(0, 5, 30)]);
     assert_eq!(store.ask_one(Ask::Tidy), Reply::Step(2, 0));
-    assert_eq!(store.lent.cards[0][..8], [1, 2, 5, 5, 30, 2, 0, 30]);
+    assert_eq!(store.lent.cards[0][..10], [1, 2, 5, 5, 30, 1, 2, 0, 30, 1]);
     assert_eq!(store.lent.cards[1][..3], [1, 0, 0]);
 }
 

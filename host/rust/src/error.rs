@@ -51,8 +51,8 @@ impl Rule {
             Rule::D => "The memory table is a table with 0 to 16 entries, keys strictly rising, and zeros behind them.",
             Rule::E => {
                 "Links hang only on tables of levels 1 to 3, at most as many as the threshold on one. A link's low is not \
-                 above its high; it names a frozen place and holds at least one of that place's entries. Links that name \
-                 one place share no key and hang on one level."
+                 above its high; it names a frozen place and holds at least one of that place's entries, and its number \
+                 says how many. Links that name one place share no key and hang on one level."
             }
             Rule::F => "A place is frozen exactly if a link names it.",
             Rule::G => {

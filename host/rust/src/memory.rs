@@ -2,7 +2,7 @@
 
 use crate::bytes::{pair, word};
 use crate::{Refused, PLACES};
-use zilgwern_sys::{Head, Table};
+use zilgwern_sys::{Head, Table, CARD_LINKS, ROW_WORDS};
 
 pub use zilgwern_sys::Row;
 
@@ -13,6 +13,13 @@ const HEAD_BYTES: usize = size_of::<Head>();
 
 /// Bytes of a place, its card and its items in the lists.
 const BYTES_A_PLACE: usize = TABLE_BYTES + ROW_BYTES + 2 * LEVELS;
+
+/// The last word of the bytes that a store is kept by: their form. A length alone may be that of two forms.
+const FORM: u64 = 2;
+const FORM_BYTES: usize = size_of::<u64>();
+
+/// In form 1 links had no numbers, and no word said the form: the memory table came last, which ends with zeros in a sound store.
+const FORM_1_BYTES_A_PLACE: usize = BYTES_A_PLACE - CARD_LINKS * size_of::<u64>();
 
 /// The five pieces of a store's memory, borrowed. Sizes and contents may be any: what is wrong is refused.
 pub struct Pieces<'a> {
@@ -66,7 +73,7 @@ impl Memory {
         let each = |size: usize| places.checked_mul(size).expect("no machine has so much memory");
         Memory {
             area: vec![0; each(TABLE_BYTES)],
-            cards: vec![[0; 26]; places],
+            cards: vec![[0; ROW_WORDS]; places],
             lists: vec![0; each(LEVELS)],
             head: [0; 10],
             memory: [0; 1024],
@@ -80,10 +87,11 @@ impl Memory {
 
     /// How many bytes `to_bytes` gives for so many places.
     pub const fn byte_count(places: usize) -> usize {
-        BYTES_A_PLACE * places + HEAD_BYTES + TABLE_BYTES
+        BYTES_A_PLACE * places + HEAD_BYTES + TABLE_BYTES + FORM_BYTES
     }
 
-    /// The plain bytes of what is lent, piece after piece: area, cards, lists, head, memory table; numbers little-endian.
+    /// The plain bytes of what is lent, piece after piece: area, cards, lists, head, memory table; then a word that says their
+    /// form, 2. Numbers are little-endian.
     ///
     /// ```
     /// use zilgwern::{Memory, Refused, Store};
@@ -91,7 +99,7 @@ impl Memory {
     /// let mut store = Store::owned(16, 4)?;
     /// store.put(7, b"kept")?;
     /// let bytes = store.memory().to_bytes();
-    /// assert_eq!(bytes.len(), 16 * (1024 + 208 + 8) + 80 + 1024);
+    /// assert_eq!(bytes.len(), 16 * (1024 + 272 + 8) + 80 + 1024 + 8);
     /// assert_eq!(bytes.len(), Memory::byte_count(16));
     /// let mut again = Store::open_owned(Memory::from_bytes(&bytes)?)?;
     /// assert_eq!(again.look_up(7)?.as_deref(), Some(&b"kept"[..]));
@@ -104,13 +112,15 @@ impl Memory {
         bytes.extend(self.lists.iter().flat_map(|item| item.to_le_bytes()));
         bytes.extend(self.head.iter().flat_map(|word| word.to_le_bytes()));
         bytes.extend(self.memory);
+        bytes.extend(FORM.to_le_bytes());
         bytes
     }
 
-    /// The pieces from such bytes, sound or not; refused where no number of places has so many bytes.
+    /// The pieces from such bytes, sound or not; refused where no number of places has so many bytes, or their form is another.
     pub fn from_bytes(bytes: &[u8]) -> Result<Memory, Refused> {
+        let (bytes, form) = bytes.split_last_chunk().ok_or(Refused::Sizes)?;
         let of_places = bytes.len().checked_sub(HEAD_BYTES + TABLE_BYTES).ok_or(Refused::Sizes)?;
-        if !of_places.is_multiple_of(BYTES_A_PLACE) {
+        if *form != FORM.to_le_bytes() || !of_places.is_multiple_of(BYTES_A_PLACE) {
             return Err(Refused::Sizes);
         }
         let places = of_places / BYTES_A_PLACE;
@@ -126,6 +136,27 @@ impl Memory {
             head: std::array::from_fn(|at| word(head, 8 * at)),
             memory: memory.try_into().expect("a table's bytes"),
         })
+    }
+
+    /// Whether bytes that are refused are those of a store from before links had numbers. It can't be opened: who has made it must
+    /// read it and put what it holds into a new one.
+    ///
+    /// ```
+    /// use zilgwern::{Memory, Refused};
+    ///
+    /// // Rows had eight words less. This is the length of 61 places then, and of 58 now.
+    /// let bytes = vec![0; 61 * (1024 + 208 + 8) + 80 + 1024];
+    /// assert_eq!(bytes.len(), Memory::byte_count(58));
+    /// assert_eq!(Memory::from_bytes(&bytes), Err(Refused::Sizes));
+    /// assert!(Memory::is_form_1(&bytes));
+    /// ```
+    pub fn is_form_1(bytes: &[u8]) -> bool {
+        let of_places = bytes.len().checked_sub(HEAD_BYTES + TABLE_BYTES);
+        let whole = of_places.is_some_and(|bytes| {
+            let places = bytes / FORM_1_BYTES_A_PLACE;
+            PLACES.contains(&places) && bytes.is_multiple_of(FORM_1_BYTES_A_PLACE)
+        });
+        whole && bytes.ends_with(&[0; FORM_BYTES])
     }
 
     /// The pieces for a store to borrow.

@@ -3,6 +3,7 @@
 use crate::bytes::{pair, take_whole, word};
 use crate::memory::{LEVELS, TABLE_BYTES};
 use crate::{Key, Memory};
+use zilgwern_sys::{LINK_WORDS, ROW_LINKS};
 
 /// An entry of a table; a delete mark has no value.
 #[derive(Clone, PartialEq, Eq, Debug)]
@@ -22,6 +23,8 @@ pub struct Link {
     pub low: Key,
     /// The last key of the range.
     pub high: Key,
+    /// How many of the frozen place's entries the range has, delete marks and entries that a newer one hides included.
+    pub number: usize,
 }
 
 impl Link {
@@ -50,6 +53,11 @@ impl Table {
         let (low, high) = (ends.clone().min(), ends.max());
         (low.unwrap_or(Key::LEAST), high.unwrap_or(Key::GREATEST))
     }
+
+    /// The entries that its links hold, all together.
+    pub fn weight(&self) -> usize {
+        self.links.iter().map(|link| link.number).sum()
+    }
 }
 
 /// A store, spread out.
@@ -72,7 +80,7 @@ impl Table {
 pub struct View {
     /// The number of places.
     pub places: usize,
-    /// So many links make a merge due.
+    /// So many links make a merge due; so do fewer that weigh as much as their table.
     pub threshold: u64,
     /// The place from which the next free one is looked for.
     pub cursor: usize,
@@ -112,6 +120,12 @@ impl View {
         self.places - self.frozen.len() - self.levels.iter().map(Vec::len).sum::<usize>()
     }
 
+    /// Whether a merge of this table is due: it has as many links as the threshold says, or they weigh as many entries as it has
+    /// itself, or more.
+    pub fn is_due(&self, table: &Table) -> bool {
+        table.links.len() as u64 >= self.threshold || table.weight() >= table.entries.len()
+    }
+
     /// The level and the place of each table with a link to this place.
     pub fn linked_from(&self, place: usize) -> Vec<(usize, usize)> {
         let levels = self.levels.iter().enumerate();
@@ -125,11 +139,20 @@ impl View {
 
 fn table(memory: &Memory, place: usize) -> Table {
     let card = &memory.cards[place];
-    let link = |at: &[u64]| Link { place: at[0] as usize, low: Key(at[1]), high: Key(at[2]) };
+    let link = |at: &[u64]| Link {
+        place: at[0] as usize,
+        low: Key(at[1]),
+        high: Key(at[2]),
+        number: at[3] as usize,
+    };
     Table {
         place,
         entries: entries(&memory.area[place * TABLE_BYTES..][..TABLE_BYTES]),
-        links: card[2..].chunks_exact(3).take(card[1] as usize).map(link).collect(),
+        links: card[ROW_LINKS..]
+            .chunks_exact(LINK_WORDS)
+            .take(card[1] as usize)
+            .map(link)
+            .collect(),
     }
 }
 

@@ -166,8 +166,35 @@ fn memory_goes_into_bytes_and_comes_back() {
         assert_eq!(Memory::from_bytes(&bytes), Ok(memory));
         assert_eq!(Memory::from_bytes(&bytes[1..]), Err(Refused::Sizes));
         assert_eq!(Memory::from_bytes(&[&bytes[..], &[0]].concat()), Err(Refused::Sizes));
+        let (pieces, form) = bytes.split_at(bytes.len() - 8);
+        assert_eq!(form, [2, 0, 0, 0, 0, 0, 0, 0]);
+        for other in [[1, 0, 0, 0, 0, 0, 0, 0], [2, 0, 0, 0, 0, 0, 0, 1]] {
+            let bytes = [pieces, &other].concat();
+            assert_eq!(Memory::from_bytes(&bytes), Err(Refused::Sizes));
+            assert!(!Memory::is_form_1(&bytes));
+        }
     }
     assert_eq!(Memory::from_bytes(&[]), Err(Refused::Sizes));
+}
+
+/// Rows had 26 words before links had numbers, and nothing stood behind the memory table, which ended with zeros.
+#[test]
+fn bytes_of_the_first_form_are_never_taken() {
+    let mut same_lengths = 0;
+    for places in PLACES {
+        let mut bytes = vec![0; places * (1024 + 26 * 8 + 8) + 80 + 1024];
+        // A new store: the threshold, and an empty memory table.
+        let head = bytes.len() - 1024 - 80;
+        bytes[head] = 4;
+        bytes[head + 80..head + 84].copy_from_slice(&[8, 0, 32, 0]);
+        assert_eq!(Memory::from_bytes(&bytes), Err(Refused::Sizes), "{places}");
+        assert!(Memory::is_form_1(&bytes), "{places}");
+        same_lengths += PLACES.filter(|other| Memory::byte_count(*other) == bytes.len()).count();
+    }
+    // Every 163rd length, from 61 places on, is one of both forms.
+    assert_eq!(same_lengths, 25);
+    let wrong = [0, 1103, 1104, 15 * 1240 + 1104, 4097 * 1240 + 1104, 16 * 1240 + 1105];
+    assert!(wrong.iter().all(|length| !Memory::is_form_1(&vec![0; *length])));
 }
 
 /// The value under a key by the order's reading rule, worked out from a view.

@@ -119,6 +119,79 @@ fn a_table_of_the_longest_entries_is_as_printed() {
     assert_eq!(memory.area[0x3F7..0x400], [b'v', 0, 0, 0, 0, 0, 0, 0, 0]);
 }
 
+/// The bytes of a piece of the example with a link, up to the first that are left out, and the words behind its last line.
+fn piece(name: &str) -> (Vec<u8>, &'static str) {
+    let mut lines = PAGE.lines().skip_while(|line| !line.starts_with(&format!("    {name}  ")));
+    let first = lines.next().expect(name);
+    let others = lines.take_while(|line| line.starts_with(&" ".repeat(12)));
+    let lines: Vec<&str> = [first].into_iter().chain(others).map(|line| &line[12..]).collect();
+    let byte = |pair: &str| u8::from_str_radix(pair, 16).ok().filter(|_| pair.len() == 2);
+    let bytes = lines.iter().flat_map(|line| line.split_whitespace().map_while(byte)).collect();
+    (bytes, lines.last().unwrap().rsplit("  ").next().unwrap().trim_start())
+}
+
+/// The card begins as it is printed; all behind what is printed is zero, and the words say how many bytes that are.
+fn card_is_printed(card: &Row, name: &str) {
+    let (shown, words) = piece(name);
+    let bytes: Vec<u8> = card.iter().flat_map(|word| word.to_le_bytes()).collect();
+    // The last of those that are shown is the first zero.
+    let rest = bytes[shown.len() - 1..].to_vec();
+    assert!(bytes.starts_with(&shown), "{name}: {bytes:?}");
+    assert!(rest.iter().all(|byte| *byte == 0), "{name}: {bytes:?}");
+    assert!(words.ends_with(&format!("{} zeros", rest.len())), "{name}: {words}");
+}
+
+#[test]
+fn a_link_is_as_printed() {
+    let mut memory = Memory::zeroed(32);
+    let mut store = Store::make(memory.lend(), 4).unwrap();
+    for keys in [&[1u64, 2, 3][..], &[4, 5], &[6], &[7]] {
+        for key in keys {
+            match key {
+                5 => store.delete(*key).unwrap(),
+                _ => store.put(*key, b"v").unwrap(),
+            }
+        }
+        assert_eq!(store.flush(), Ok(true));
+    }
+    for step in [Step::Moved, Step::Linked] {
+        assert_eq!(store.tidy(), Ok(Some(Stepped { step, level: 0 })));
+    }
+    let view = store.view();
+    let table = &view.levels[1][0];
+    let link = Link { place: 1, low: Key::LEAST, high: Key::GREATEST, number: 2 };
+    assert_eq!((&table.links[..], table.weight(), view.is_due(table)), (&[link][..], 2, false));
+    card_is_printed(&memory.cards[0], "card 0");
+    card_is_printed(&memory.cards[1], "card 1");
+    let lists: Vec<u8> = memory.lists.iter().flat_map(|item| item.to_le_bytes()).collect();
+    assert!(lists.starts_with(&piece("list 0").0));
+    assert_eq!(size_of::<Row>(), 34 * 8);
+    assert!(PAGE.contains("| cards | P rows of 34 words |"));
+    assert!(PAGE.contains("| 3 cards | `zilgwern_card *`, 34 words each |"));
+}
+
+/// Where the pieces of a store file begin, and with 32 places.
+#[test]
+fn a_store_file_is_as_printed() {
+    let row = size_of::<Row>();
+    let each = [0, 1024, 1024 + row, 1024 + row + 8, 1024 + row + 8, 1024 + row + 8];
+    let fixed = [0, 0, 0, 0, 80, 80 + 1024];
+    for (name, (each, fixed)) in ["area", "cards", "lists", "head", "memory", "form"]
+        .into_iter()
+        .zip(each.into_iter().zip(fixed))
+    {
+        let starts = match (each, fixed) {
+            (0, 0) => "0".into(),
+            (_, 0) => format!("{} P", written(each)),
+            _ => format!("{} P + {}", written(each), written(fixed)),
+        };
+        let line = format!("\n| {name} | {starts} | {} |", written(32 * each + fixed));
+        assert!(PAGE.contains(&line), "{line}");
+    }
+    assert_eq!(Memory::byte_count(32), 32 * (1024 + row + 8) + 80 + 1024 + 8);
+    assert!(PAGE.contains(&format!("| {} |\n\nA file", written(Memory::byte_count(32)))));
+}
+
 /// A line of the table of limits.
 fn limit(what: &str) -> &'static str {
     let line = PAGE.lines().find(|line| line.starts_with(&format!("| {what} | ")));

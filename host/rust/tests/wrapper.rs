@@ -127,4 +127,94 @@ fn a_full_store_refuses_by_20_and_steps_are_told() {
     assert_eq!(store.tidy(), Ok(Some(Stepped { step: Step::Linked, level: 0 })));
     let report = Report { live: [14, 1, 0, 0], frozen: 1, links: 1, ..report };
     assert_eq!(store.report(), Ok(report));
+    // The table has one entry and its link another, so its merge is due, and no place is free for it.
+    assert_eq!(store.tidy(), Err(Error::Request(Refusal::NoPlace)));
+    assert_eq!(store.report(), Ok(report));
+}
+
+/// A store with a link of two entries on a table of three.
+fn linked(memory: &mut Memory) {
+    let mut store = Store::make(memory.lend(), 4).unwrap();
+    for keys in [&[1u64, 3, 9][..], &[4, 8], &[6], &[7]] {
+        keys.iter().for_each(|key| store.put(*key, b"v").unwrap());
+        assert_eq!(store.flush(), Ok(true));
+    }
+    assert_eq!(store.tidy(), Ok(Some(Stepped { step: Step::Moved, level: 0 })));
+    assert_eq!(store.tidy(), Ok(Some(Stepped { step: Step::Linked, level: 0 })));
+    assert_eq!(store.tidy(), Ok(None));
+}
+
+#[test]
+fn a_wrong_number_of_a_link_breaks_rule_e_and_one_beyond_the_links_rule_g() {
+    let mut memory = Memory::zeroed(16);
+    linked(&mut memory);
+    let good = memory.clone();
+    // State and link count, then place, low, high and number of each link.
+    assert_eq!(memory.cards[0][..6], [1, 1, 1, 0, u64::MAX, 2]);
+    let wrong = [0, 1, 3, 16, 1 << 32 | 2, u64::MAX].map(|number| (5, number, Rule::E));
+    for (word, number, rule) in wrong.into_iter().chain([(9, 2, Rule::G), (33, 1, Rule::G)]) {
+        memory.cards[0][word] = number;
+        let damaged = memory.clone();
+        let error = Store::open(memory.lend()).err();
+        assert_eq!(error, Some(Error::Refused(Refused::NotSound(rule))), "{word}: {number}");
+        assert_eq!(memory, damaged);
+        memory = good.clone();
+    }
+    assert!(Store::open(memory.lend()).is_ok());
+}
+
+/// The entries that a table's links hold, counted in the frozen tables.
+fn held(view: &View, table: &Table) -> usize {
+    let frozen = |place| view.frozen.iter().find(|frozen| frozen.place == place).unwrap();
+    let count = |link: &Link| {
+        let entries = frozen(link.place).entries.iter();
+        let count = entries.filter(|entry| link.holds(entry.key)).count();
+        assert_eq!(link.number, count);
+        count
+    };
+    table.links.iter().map(count).sum()
+}
+
+/// The first table of which a merge is due, in the order's words: its level, its place, and whether it has T links.
+fn first_due(view: &View) -> Option<(u16, usize, bool)> {
+    let tables = (1..4).flat_map(|level| view.levels[level].iter().map(move |it| (level, it)));
+    let mut due = tables.filter(|(_, table)| {
+        let many = table.links.len() as u64 == view.threshold;
+        let due = many || held(view, table) >= table.entries.len();
+        assert_eq!(view.is_due(table), due);
+        due
+    });
+    due.next().map(|(level, it)| (level as u16, it.place, it.links.len() as u64 == view.threshold))
+}
+
+#[test]
+fn a_tidy_merges_the_first_table_that_is_due_by_links_or_by_weight() {
+    let mut store = Store::owned(256, 3).unwrap();
+    let mut random = Random(7);
+    let (mut by_links, mut by_weight) = (0, 0);
+    for round in 0..300 {
+        for _ in 0..1 + random.below(16) {
+            let key = random.below(1500);
+            match random.below(4) {
+                0 => store.delete(key).unwrap(),
+                _ => store.put(key, &[round as u8]).unwrap(),
+            }
+        }
+        assert_eq!(store.flush(), Ok(true));
+        loop {
+            let due = first_due(&store.view());
+            let stepped = store.tidy().expect("a store of this size does not fill");
+            let Some((level, place, many)) = due else {
+                if stepped.is_none() {
+                    break;
+                }
+                continue;
+            };
+            assert_eq!(stepped, Some(Stepped { step: Step::Merged, level }));
+            // What was merged is free; its results stand elsewhere.
+            assert!(store.view().levels.iter().flatten().all(|table| table.place != place));
+            *if many { &mut by_links } else { &mut by_weight } += 1;
+        }
+    }
+    assert!(by_links > 50 && by_weight > 50, "{by_links} {by_weight}");
 }

@@ -1,8 +1,16 @@
 //! The functions that the static library exports, as raw calls over pointers. `host/zilgwern.h` says what they do and what
 //! they ask of those who call; for all but tests that look at raw memory, the package `zilgwern` is the one to use.
 
-/// One row of a card: state (0 free, 1 live, 2 frozen), link count, then place, low and high of eight links.
-pub type Row = [u64; 26];
+/// Links that a card has room for, and the words of one: place, low, high and number.
+pub const CARD_LINKS: usize = 8;
+pub const LINK_WORDS: usize = 4;
+
+/// Where the links begin in a row, and the words of a row.
+pub const ROW_LINKS: usize = 2;
+pub const ROW_WORDS: usize = ROW_LINKS + CARD_LINKS * LINK_WORDS;
+
+/// The row of a card: state (0 free, 1 live, 2 frozen), link count, then the links.
+pub type Row = [u64; ROW_WORDS];
 
 /// Threshold, cursor, flag and key of the marks of levels 1 and 2, then the lengths of four lists.
 pub type Head = [u64; 10];

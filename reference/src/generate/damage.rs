@@ -1,5 +1,6 @@
 //! Damage to sound stores: named ways to break each of the rules A to G.
 
+use super::damaged_numbers;
 use super::random::Random;
 use crate::lent::*;
 use crate::limits::{ENTRY_BYTES, LEVELS, PLACE_BYTES, VALUE_BYTES};
@@ -18,7 +19,7 @@ pub struct Damage {
     pub plant: Plant,
 }
 
-const fn alone(rule: Rule, name: &'static str, plant: Plant) -> Damage {
+pub(super) const fn alone(rule: Rule, name: &'static str, plant: Plant) -> Damage {
     Damage { name, rule, alone: true, plant }
 }
 
@@ -27,7 +28,11 @@ const fn mixed(rule: Rule, name: &'static str, plant: Plant) -> Damage {
 }
 
 /// Every rule in several ways.
-pub const DAMAGES: &[Damage] = &[
+pub fn damages() -> impl Iterator<Item = &'static Damage> {
+    DAMAGES.iter().chain(damaged_numbers::DAMAGES)
+}
+
+const DAMAGES: &[Damage] = &[
     mixed(Rule::A, "threshold 0", |lent, _| set_head(lent, HEAD_THRESHOLD, 0)),
     alone(Rule::A, "threshold 9", |lent, _| set_head(lent, HEAD_THRESHOLD, 9)),
     alone(Rule::A, "threshold of 64 bits", |lent, _| set_head(lent, HEAD_THRESHOLD, u64::MAX)),
@@ -108,9 +113,9 @@ pub const DAMAGES: &[Damage] = &[
     alone(Rule::D, "damaged memory", |lent, random| damage_table(&mut lent.memory, random)),
     alone(Rule::E, "low above high", |lent, random| {
         let (place, word) = any_link(lent, random)?;
-        let (low, high) = (lent.cards[place][word + 1], lent.cards[place][word + 2]);
-        set_card(lent, place, word + 1, high)?;
-        set_card(lent, place, word + 2, low)?;
+        let (low, high) = (lent.cards[place][word + LINK_LOW], lent.cards[place][word + LINK_HIGH]);
+        set_card(lent, place, word + LINK_LOW, high)?;
+        set_card(lent, place, word + LINK_HIGH, low)?;
         (low < high).then_some(())
     }),
     mixed(Rule::E, "more links than the threshold", |lent, random| {
@@ -124,9 +129,9 @@ pub const DAMAGES: &[Damage] = &[
     }),
     mixed(Rule::E, "link on level 0", |lent, random| {
         let (from, word) = any_link(lent, random)?;
-        let link = lent.cards[from][word..word + 3].to_vec();
+        let link = lent.cards[from][word..word + LINK_WORDS].to_vec();
         let on = usize::from(lent.lists[0]);
-        lent.cards[on][ROW_LINKS..ROW_LINKS + 3].copy_from_slice(&link);
+        lent.cards[on][ROW_LINKS..ROW_LINKS + LINK_WORDS].copy_from_slice(&link);
         set_card(lent, on, ROW_COUNT, 1)?;
         (lent.head[HEAD_LENGTHS] > 0).then_some(())
     }),
@@ -142,31 +147,31 @@ pub const DAMAGES: &[Damage] = &[
     alone(Rule::E, "one slice twice on a table", |lent, random| {
         let (place, word) = any_link(lent, random)?;
         let count = lent.cards[place][ROW_COUNT];
-        let link = lent.cards[place][word..word + 3].to_vec();
-        let next = ROW_LINKS + 3 * count as usize;
-        lent.cards[place].get_mut(next..next + 3)?.copy_from_slice(&link);
+        let link = lent.cards[place][word..word + LINK_WORDS].to_vec();
+        let next = ROW_LINKS + LINK_WORDS * count as usize;
+        lent.cards[place].get_mut(next..next + LINK_WORDS)?.copy_from_slice(&link);
         set_card(lent, place, ROW_COUNT, count + 1)?;
         (count < lent.head[HEAD_THRESHOLD]).then_some(())
     }),
     mixed(Rule::E, "one place on two levels", |lent, random| {
         let (from, word) = any_link(lent, random)?;
-        let link = lent.cards[from][word..word + 3].to_vec();
+        let link = lent.cards[from][word..word + LINK_WORDS].to_vec();
         let on = any_place(lent, random, STATE_LIVE)?;
         let count = lent.cards[on][ROW_COUNT];
         let fits =
             level_of(lent, on)? != level_of(lent, from)? && count < lent.head[HEAD_THRESHOLD];
-        let next = ROW_LINKS + 3 * count as usize;
-        lent.cards[on].get_mut(next..next + 3)?.copy_from_slice(&link);
+        let next = ROW_LINKS + LINK_WORDS * count as usize;
+        lent.cards[on].get_mut(next..next + LINK_WORDS)?.copy_from_slice(&link);
         set_card(lent, on, ROW_COUNT, count + 1)?;
         fits.then_some(())
     }),
     alone(Rule::E, "link without an entry", |lent, random| {
         let (place, word) = any_link(lent, random)?;
-        let (low, high) = (lent.cards[place][word + 1], lent.cards[place][word + 2]);
+        let (low, high) = (lent.cards[place][word + LINK_LOW], lent.cards[place][word + LINK_HIGH]);
         let frozen = lent.cards[place][word] as usize;
         let shown = read_table(lent.place(frozen), 1)?;
         let least = shown.iter().map(|(key, _)| *key).find(|key| (low..=high).contains(key))?;
-        set_card(lent, place, word + 2, least.checked_sub(1)?)?;
+        set_card(lent, place, word + LINK_HIGH, least.checked_sub(1)?)?;
         (low < least).then_some(())
     }),
     alone(Rule::F, "frozen without a link", |lent, random| {
@@ -180,9 +185,8 @@ pub const DAMAGES: &[Damage] = &[
         let frozen = lent.cards[place][word];
         let alone = lent.cards[place][ROW_COUNT] == 1;
         lent.cards[place][ROW_COUNT..].fill(0);
-        let named = lent.cards.iter().any(|card| {
-            card[ROW_LINKS..].chunks(3).take(card[ROW_COUNT] as usize).any(|link| link[0] == frozen)
-        });
+        let mut links = (0..lent.cards.len()).flat_map(|place| lent.links(place));
+        let named = links.any(|link| link[LINK_PLACE] == frozen);
         (alone && !named).then_some(())
     }),
     alone(Rule::G, "two tables in the wrong order", |lent, random| {
@@ -199,10 +203,8 @@ pub const DAMAGES: &[Damage] = &[
         let position = list.iter().position(|item| usize::from(*item) == place)?;
         let next = usize::from(*list.get(position + 1)?);
         let own = read_table(lent.place(next), 1)?.first()?.0;
-        let row = &lent.cards[next];
-        let links = row[ROW_LINKS..].chunks(3).take(row[ROW_COUNT] as usize);
-        let start = links.map(|link| link[1]).fold(own, u64::min);
-        set_card(lent, place, word + 2, start)
+        let start = lent.links(next).map(|link| link[LINK_LOW]).fold(own, u64::min);
+        set_card(lent, place, word + LINK_HIGH, start)
     }),
     alone(Rule::G, "mark flag above 1", |lent, random| {
         let flag = HEAD_MARKS + 2 * random.below(2);
@@ -216,7 +218,7 @@ pub const DAMAGES: &[Damage] = &[
     }),
     alone(Rule::G, "word beyond a card's links", |lent, random| {
         let place = random.below(lent.cards.len());
-        let first = ROW_LINKS + 3 * lent.cards[place][ROW_COUNT] as usize;
+        let first = ROW_LINKS + LINK_WORDS * lent.cards[place][ROW_COUNT] as usize;
         *lent.cards[place][first..].last_mut()? = 1;
         Some(())
     }),
@@ -233,7 +235,7 @@ fn set_head(lent: &mut Lent, word: usize, value: u64) -> Option<()> {
     Some(())
 }
 
-fn set_card(lent: &mut Lent, place: usize, word: usize, value: u64) -> Option<()> {
+pub(super) fn set_card(lent: &mut Lent, place: usize, word: usize, value: u64) -> Option<()> {
     lent.cards[place][word] = value;
     Some(())
 }
@@ -254,12 +256,12 @@ fn level_of(lent: &Lent, place: usize) -> Option<usize> {
 }
 
 /// A card with links and the first word of one of them.
-fn any_link(lent: &Lent, random: &mut Random) -> Option<(usize, usize)> {
+pub(super) fn any_link(lent: &Lent, random: &mut Random) -> Option<(usize, usize)> {
     let linked = |place: &usize| lent.cards[*place][ROW_COUNT] > 0;
     let places: Vec<usize> = (0..lent.cards.len()).filter(linked).collect();
     let place = *places.get(random.below(places.len().max(1)))?;
     let link = random.below(lent.cards[place][ROW_COUNT] as usize);
-    Some((place, ROW_LINKS + 3 * link))
+    Some((place, ROW_LINKS + LINK_WORDS * link))
 }
 
 fn append_item(lent: &mut Lent, random: &mut Random, item: u16) -> Option<()> {

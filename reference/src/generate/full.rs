@@ -18,23 +18,24 @@ pub fn full(random: &mut Random, places: usize) -> Store {
     let mut store = new_store(vec![0; places * PLACE_BYTES], LIVE);
     for group in 0..places / (LIVE + FROZEN) {
         let first = group * (LIVE + FROZEN);
-        for number in 0..LIVE {
-            let low = (group * LIVE + number) as Key * PLOT;
-            store.settle(first + number, spread(random, low, PLOT / TABLE_ENTRIES as Key));
-            store.levels[3].push(first + number);
+        for on in 0..LIVE {
+            let low = (group * LIVE + on) as Key * PLOT;
+            store.settle(first + on, spread(random, low, PLOT / TABLE_ENTRIES as Key));
+            store.levels[3].push(first + on);
         }
         for place in first + LIVE..first + LIVE + FROZEN {
             let low = (group * LIVE) as Key * PLOT;
             let table = spread(random, low, PLOT * LIVE as Key / TABLE_ENTRIES as Key);
             store.write_bytes(place, &table);
-            store.places[place] = Place::Frozen { table };
-            for number in 0..LIVE {
-                let low = low + number as Key * PLOT;
-                let link = Link { place, low, high: low + PLOT - 1 };
-                if let Place::Live { links, .. } = &mut store.places[first + number] {
-                    links.push(link);
+            for on in 0..LIVE {
+                let low = low + on as Key * PLOT;
+                let high = low + PLOT - 1;
+                let number = table.range(low..=high).count();
+                if let Place::Live { links, .. } = &mut store.places[first + on] {
+                    links.push(Link { place, low, high, number });
                 }
             }
+            store.places[place] = Place::Frozen { table };
         }
     }
     store

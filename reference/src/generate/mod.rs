@@ -2,6 +2,7 @@
 
 pub mod broken;
 pub mod damage;
+mod damaged_numbers;
 pub mod features;
 pub mod full;
 pub mod keys;
@@ -10,3 +11,4 @@ pub mod profile;
 pub mod random;
 pub mod requests;
 pub mod vectors;
+mod weigh;

@@ -3,32 +3,34 @@
 use super::keys::Keys;
 use super::random::Random;
 use super::requests::Lengths;
+use super::weigh::Balance;
 use crate::limits::{capacity, CARD_LINKS, LEVELS, PLACE_BYTES, TABLE_ENTRIES};
 use crate::store::{new_store, Link, Place, Store};
 use crate::table::{greatest, least, Entries, Entry, Key};
 
 /// A table of levels 1 to 3 and the keys that its span may take.
-struct Plot {
-    place: usize,
-    points: Vec<Key>,
+pub(super) struct Plot {
+    pub(super) place: usize,
+    pub(super) points: Vec<Key>,
     low: Key,
     high: Key,
 }
 
 /// A store in the making.
-struct Garden<'a> {
-    random: &'a mut Random,
+pub(super) struct Garden<'a> {
+    pub(super) random: &'a mut Random,
     keys: Keys,
-    store: Store,
+    pub(super) store: Store,
     /// Places that are still to be planted, in no order.
     ground: Vec<usize>,
-    plots: [Vec<Plot>; LEVELS],
+    pub(super) plots: [Vec<Plot>; LEVELS],
     /// Of eight entries so many are delete marks.
     marks_in_eight: usize,
     lengths: Lengths,
-    /// Level 1 or 2 in some stores: alone above its capacity, and each of its tables has one link, so that tidy has no table to
-    /// choose and merges one in place of a choice.
+    /// Level 1 or 2 in some stores: alone above its capacity, and each of its tables has one link and outweighs it, so that tidy
+    /// has no table to choose and merges one in place of a choice.
     crowded: Option<usize>,
+    pub(super) balance: Balance,
 }
 
 /// Plants a store of so many places with keys of this set.
@@ -48,6 +50,8 @@ pub fn planted(random: &mut Random, places: usize, keys: Keys) -> Store {
     // Level 2 needs so many places to be crowded.
     let levels: &[usize] = if ground.len() > 60 { &[1, 2] } else { &[1] };
     let crowded = random.once_in(6).then(|| *random.pick(levels));
+    let any = *random.pick(&[Balance::Any, Balance::Even, Balance::Light]);
+    let balance = crowded.map_or(any, |_| Balance::Light);
     let mut garden = Garden {
         random,
         keys,
@@ -57,9 +61,11 @@ pub fn planted(random: &mut Random, places: usize, keys: Keys) -> Store {
         marks_in_eight,
         lengths,
         crowded,
+        balance,
     };
     garden.plant_levels();
     garden.plant_frozen();
+    garden.weigh();
     if garden.crowded.is_none() && garden.random.once_in(2) {
         // What is left goes to level 0, so that no more than the spare places are free.
         garden.plant_level_0(garden.ground.len());
@@ -106,7 +112,9 @@ impl Garden<'_> {
 
     /// Cuts a rising row of keys into plots and plants a table in each.
     fn plant_level(&mut self, level: usize, count: usize) {
-        let density = *self.random.pick(&[3, 8, 20]);
+        // A table that outweighs its links wants many keys.
+        let densities: &[usize] = if self.crowded == Some(level) { &[20] } else { &[3, 8, 20] };
+        let density = *self.random.pick(densities);
         let points: Vec<Key> =
             self.keys.draw_set(self.random, count * density).into_iter().collect();
         let count = count.min(points.len());
@@ -133,7 +141,7 @@ impl Garden<'_> {
         place
     }
 
-    fn any_entry(&mut self) -> Entry {
+    pub(super) fn any_entry(&mut self) -> Entry {
         if self.random.below(8) < self.marks_in_eight {
             return Entry::DeleteMark;
         }
@@ -170,6 +178,7 @@ impl Garden<'_> {
             if !table.is_empty() {
                 self.add_unseen(&mut table);
                 self.store.write_bytes(place, &table);
+                self.number_links(place, &table);
                 self.store.places[place] = Place::Frozen { table };
                 self.ground.pop();
             }
@@ -188,9 +197,9 @@ impl Garden<'_> {
         let low = if self.random.once_in(3) { plot.low } else { start };
         let end = *self.random.pick(&plot.points);
         let high = if self.random.once_in(3) { region_high } else { end.max(start) };
-        self.add_link(Link { place, low, high }, on, start, table);
+        self.add_link(Link { place, low, high, number: 0 }, on, start, table);
         if high < region_high && self.crowded.is_none() && self.random.once_in(3) {
-            let rest = Link { place, low: high + 1, high: region_high };
+            let rest = Link { place, low: high + 1, high: region_high, number: 0 };
             self.add_link(rest, on, high + 1, table);
         }
     }
@@ -208,6 +217,17 @@ impl Garden<'_> {
             table.insert(key, entry);
             table.extend(more.into_iter().filter(|(key, _)| link.holds(*key)));
             links.push(link);
+        }
+    }
+
+    /// Gives the links that name a place their numbers, now that its table is whole.
+    fn number_links(&mut self, named: usize, table: &Entries) {
+        let links = self.store.places.iter_mut().filter_map(|place| match place {
+            Place::Live { links, .. } => Some(links),
+            _ => None,
+        });
+        for link in links.flatten().filter(|link| link.place == named) {
+            link.number = table.keys().filter(|key| link.holds(**key)).count();
         }
     }
 

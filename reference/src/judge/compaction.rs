@@ -1,5 +1,6 @@
 //! The working's puts, deletes, flushes and tidies: what the rules link and merge.
 
+use super::due::Trigger;
 use super::working::{bytes_of, Rows, Slice, Working};
 use crate::limits::{capacity, TABLE_ENTRIES};
 use std::collections::{BTreeMap, BTreeSet};
@@ -22,12 +23,13 @@ pub enum Deed {
     },
     Merged {
         on: usize,
-        due: bool,
+        /// None for a merge in place of a choice.
+        due: Option<Trigger>,
         tables: usize,
     },
     MergeRefused {
         on: usize,
-        due: bool,
+        due: Option<Trigger>,
     },
 }
 
@@ -64,17 +66,17 @@ impl Working {
 
     /// One step, or none if there is nothing to do.
     fn tidy(&mut self) -> Option<Deed> {
-        let hanging = self.counts();
-        let full = |place: &&usize| hanging[**place] >= self.threshold;
-        for on in 1..4 {
-            if let Some(place) = self.levels[on].iter().find(full) {
-                return Some(self.merge(on, *place, true));
-            }
+        let loaded = self.loaded();
+        let first = loaded.iter().position(|table| table.due.is_some());
+        self.meet_due(&loaded, first);
+        if let Some(table) = first.map(|first| &loaded[first]) {
+            return Some(self.merge(table.level, table.place, table.due));
         }
         let from = self.fullest()?;
         let order = self.order(from);
-        let Some(chosen) = order.iter().copied().find(|place| hanging[*place] == 0) else {
-            return Some(self.merge(from, order[0], false));
+        let linked: BTreeSet<usize> = self.slices.iter().map(|slice| slice.on).collect();
+        let Some(chosen) = order.iter().copied().find(|place| !linked.contains(place)) else {
+            return Some(self.merge(from, order[0], None));
         };
         let rows = self.rows(chosen).clone();
         if from > 0 {
@@ -85,16 +87,9 @@ impl Working {
             self.levels[from + 1].push(chosen);
             return Some(Deed::Moved { from });
         }
-        Some(Deed::Linked { from, links: self.link(chosen, &rows, from + 1) })
-    }
-
-    /// How many slices hang on each place.
-    fn counts(&self) -> Vec<usize> {
-        let mut counts = vec![0; self.tables.len()];
-        for slice in &self.slices {
-            counts[slice.on] += 1;
-        }
-        counts
+        let links = self.link(chosen, &rows, from + 1);
+        self.meet_links(from, links);
+        Some(Deed::Linked { from, links })
     }
 
     /// The level above capacity with the greatest live/capacity; the lower number among equals.
@@ -149,7 +144,7 @@ impl Working {
     }
 
     /// Merges a table with its slices, or does nothing if the free places don't suffice.
-    fn merge(&mut self, on: usize, place: usize, due: bool) -> Deed {
+    fn merge(&mut self, on: usize, place: usize, due: Option<Trigger>) -> Deed {
         let results = self.results(on, place);
         let tables = results.len();
         if tables > self.free() {
@@ -180,10 +175,8 @@ impl Working {
         let mut union: BTreeMap<u64, &Option<Vec<u8>>> = BTreeMap::new();
         // Newest first, so that what is there already stays.
         for slice in self.slices.iter().rev().filter(|slice| slice.on == place) {
-            for (key, value) in self.rows(slice.frozen) {
-                if slice.low <= *key && *key <= slice.high {
-                    union.entry(*key).or_insert(value);
-                }
+            for (key, value) in self.sliced(slice) {
+                union.entry(*key).or_insert(value);
             }
         }
         for (key, value) in self.rows(place) {

@@ -1,6 +1,6 @@
 //! Where a history begins at a store that is not new: the working derived from its memory.
 
-use super::working::{bytes_of, Rows, Slice, Working};
+use super::working::{bytes_of, links_of, Rows, Slice, Working};
 use crate::lent::Lent;
 
 fn number(bytes: &[u8], at: usize) -> usize {
@@ -40,9 +40,10 @@ pub(super) fn working(lent: &Lent) -> Working {
         if card[0] != 0 {
             working.tables[place] = Some(rows(lent.place(place)));
         }
-        for link in card[2..].chunks(3).take(card[1] as usize) {
-            let frozen = link[0] as usize;
-            working.slices.push(Slice { frozen, low: link[1], high: link[2], on: place });
+        // The number is not taken over: the slice list has none.
+        for [frozen, low, high, _] in links_of(card) {
+            let frozen = frozen as usize;
+            working.slices.push(Slice { frozen, low, high, on: place });
             working.kept.insert(frozen, bytes_of(&rows(lent.place(frozen))));
         }
     }

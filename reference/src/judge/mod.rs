@@ -3,11 +3,13 @@
 
 mod book;
 mod compaction;
+mod due;
 mod image;
 mod latest;
 mod working;
 
 pub use compaction::Deed;
+pub use due::{met, Trigger};
 pub use latest::LatestWrites;
 pub use working::{Slice, Working};
 
@@ -33,12 +35,14 @@ impl Served<'_> {
 }
 
 /// What a served request did, for counting what a test run reached.
-#[derive(Clone, Copy)]
+#[derive(Clone)]
 pub struct Followed<'a> {
     pub served: Served<'a>,
     /// Whether a put or delete took the place of an earlier value.
     pub replaced: bool,
     pub deed: Option<Deed>,
+    /// What a tidy met; see `met`.
+    pub met: Vec<&'static str>,
 }
 
 /// What the judge knows of a history so far.
@@ -95,7 +99,8 @@ impl Judge {
             if self.whole_book {
                 self.working.compare_reply(&served, deed)?;
             }
-            followed.push(Followed { served, replaced, deed });
+            let met = std::mem::take(&mut self.working.met);
+            followed.push(Followed { served, replaced, deed, met });
         }
         self.working.compare(after)?;
         self.runs += 1;

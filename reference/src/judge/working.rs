@@ -2,12 +2,15 @@
 //! requests alone, never the cards or the area of the store that was run.
 
 use super::LatestWrites;
-use crate::lent::Lent;
+use crate::lent::{Lent, Row as Card, LINK_WORDS, ROW_LINKS};
 use crate::limits::{ENTRY_HEAD, PLACE_BYTES, TABLE_ENTRIES, VALUE_BYTES};
 use std::collections::{BTreeMap, BTreeSet};
 
-/// Keys rising; none for a delete mark.
-pub type Rows = Vec<(u64, Option<Vec<u8>>)>;
+/// A key with its value; none for a delete mark.
+pub type Row = (u64, Option<Vec<u8>>);
+
+/// Keys rising.
+pub type Rows = Vec<Row>;
 
 /// One item of the slice list: a frozen place, a range, and the place that the slice hangs on.
 #[derive(Clone, PartialEq, Eq, Debug)]
@@ -33,6 +36,8 @@ pub struct Working {
     pub(super) slices: Vec<Slice>,
     /// What each frozen place held when it was linked.
     pub(super) kept: BTreeMap<usize, Vec<u8>>,
+    /// What the latest request met, for counting; see `due`.
+    pub(super) met: Vec<&'static str>,
 }
 
 impl Working {
@@ -46,6 +51,7 @@ impl Working {
             tables: vec![None; places],
             slices: Vec::new(),
             kept: BTreeMap::new(),
+            met: Vec::new(),
         }
     }
 
@@ -136,7 +142,7 @@ impl Working {
             if slices.len() > self.threshold || card[1] > self.threshold as u64 {
                 return Err(format!("place {place}: more links than the threshold"));
             }
-            if links_of(card) != words_of(slices) {
+            if links_of(card) != self.words_of(slices) {
                 return Err(format!(
                     "place {place}: links {:?}, slices {slices:?}",
                     links_of(card)
@@ -150,16 +156,24 @@ impl Working {
         }
         Ok(())
     }
+
+    /// Slices as the words of links: frozen place, range, and how many entries the place held in it when it was linked.
+    fn words_of(&self, slices: &[&Slice]) -> Vec<LinkWords> {
+        let words = |slice: &&Slice| {
+            let number = self.sliced(slice).count();
+            [slice.frozen as u64, slice.low, slice.high, number as u64]
+        };
+        slices.iter().map(words).collect()
+    }
 }
 
-/// Place, low and high of a card's links.
-fn links_of(card: &[u64; 26]) -> Vec<[u64; 3]> {
-    let count = card[1].min(8) as usize;
-    (0..count).map(|link| [card[2 + 3 * link], card[3 + 3 * link], card[4 + 3 * link]]).collect()
-}
+/// A link on a card: place, low, high and number.
+pub(super) type LinkWords = [u64; LINK_WORDS];
 
-fn words_of(slices: &[&Slice]) -> Vec<[u64; 3]> {
-    slices.iter().map(|slice| [slice.frozen as u64, slice.low, slice.high]).collect()
+/// The links in use of a card, which follow its state and their count.
+pub(super) fn links_of(card: &Card) -> Vec<LinkWords> {
+    let words = card[ROW_LINKS..].chunks_exact(LINK_WORDS).take(card[1].min(8) as usize);
+    words.map(|link| link.try_into().expect("the words of a link")).collect()
 }
 
 fn apply(latest: &mut LatestWrites, rows: &Rows, low: u64, high: u64) {

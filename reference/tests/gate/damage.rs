@@ -1,14 +1,14 @@
 //! Damaged stores: each named damage breaks its rule, and the run is refused with number 5.
 
 use crate::common::announce;
-use reference::generate::damage::DAMAGES;
+use reference::generate::damage::damages;
 use reference::generate::keys::Keys;
 use reference::generate::planted::planted;
 use reference::generate::profile::{Source, PROFILES};
 use reference::generate::random::Random;
 use reference::generate::requests::report;
 use reference::implementation::Reference;
-use reference::lent::{Lent, HEAD_CURSOR, HEAD_LENGTHS};
+use reference::lent::{Lent, HEAD_CURSOR, HEAD_LENGTHS, LINK_WORDS, ROW_LINKS};
 use reference::limits::{ENTRY_BYTES, TABLE_HEAD};
 use reference::reached::Reached;
 use reference::rules::{check, Broken, Rule};
@@ -38,11 +38,11 @@ fn planted_stores_are_sound_and_decode_to_their_bytes() {
 #[test]
 fn every_damage_breaks_its_rule() {
     let mut random = Random::new(12);
-    let names = DAMAGES.iter().map(|damage| format!("{:?}: {}", damage.rule, damage.name));
+    let names = damages().map(|damage| format!("{:?}: {}", damage.rule, damage.name));
     let mut reached = Reached::requiring(names);
     for number in 0..400 {
         let sound = planted_lent(&mut random, number);
-        for damage in DAMAGES {
+        for damage in damages() {
             let mut lent = sound.clone();
             if (damage.plant)(&mut lent, &mut random).is_none() {
                 continue;
@@ -60,7 +60,7 @@ fn every_damage_breaks_its_rule() {
     announce(&format!("damages found:\n{reached}"));
     assert!(reached.missing().is_empty(), "never planted: {:?}", reached.missing());
     for rule in Rule::ALL {
-        assert!(DAMAGES.iter().any(|damage| damage.rule == rule && damage.alone));
+        assert!(damages().any(|damage| damage.rule == rule && damage.alone));
     }
 }
 
@@ -77,7 +77,7 @@ fn the_set_names_all_broken_rules() {
     let mut sets = BTreeSet::new();
     for number in 0..200 {
         let sound = planted_lent(&mut random, number);
-        for damage in DAMAGES.iter().filter(|damage| damage.alone) {
+        for damage in damages().filter(|damage| damage.alone) {
             let mut lent = sound.clone();
             if (damage.plant)(&mut lent, &mut random).is_none() {
                 continue;
@@ -116,7 +116,8 @@ fn disturb(lent: &mut Lent, random: &mut Random) {
         }
         _ => {
             let card = random.below(lent.cards.len());
-            lent.cards[card][random.below(9)] = value;
+            // State, count and two links.
+            lent.cards[card][random.below(ROW_LINKS + 2 * LINK_WORDS)] = value;
         }
     }
 }

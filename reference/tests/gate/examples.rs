@@ -78,18 +78,16 @@ fn p6_the_oldest_of_three_tables_moves() {
 #[test]
 fn p7_three_links_cover_all_keys() {
     let store = p7(4, &[5, 25, 70]);
-    let link = |on: usize, low, high| (on, Link { place: 3, low, high });
+    let link = |on: usize, low, high| (on, Link { place: 3, low, high, number: 1 });
     let links = vec![link(0, 0, 20), link(1, 21, 40), link(2, 41, Key::MAX)];
     assert_eq!(store.name_step(), Step::Linked { level: 0, place: 3, links });
     let mut lent = store.encode();
     assert_eq!(serve(&mut lent, &[tidy()]).answers, hex("0A 00 06 00 00 00 02 00 00 00"));
-    assert_eq!(lent.cards[0][..5], [1, 1, 3, 0, 20]);
-    assert_eq!(lent.cards[1][..5], [1, 1, 3, 21, 40]);
-    assert_eq!(lent.cards[2][..5], [1, 1, 3, 41, Key::MAX]);
-    assert_eq!(
-        lent.cards[3],
-        [2, 0, 0, 0, 0, 0, 0, 0, 0, 0, 0, 0, 0, 0, 0, 0, 0, 0, 0, 0, 0, 0, 0, 0, 0, 0]
-    );
+    assert_eq!(lent.cards[0][..6], [1, 1, 3, 0, 20, 1]);
+    assert_eq!(lent.cards[1][..6], [1, 1, 3, 21, 40, 1]);
+    assert_eq!(lent.cards[2][..6], [1, 1, 3, 41, Key::MAX, 1]);
+    assert_eq!((lent.cards[3].len(), lent.cards[3][0]), (34, 2));
+    assert!(lent.cards[3][1..].iter().all(|word| *word == 0));
 }
 
 #[test]
@@ -98,7 +96,7 @@ fn p8_one_link_where_one_table_is_responsible() {
     serve(&mut lent, &[tidy()]);
     let counts: Vec<u64> = lent.cards[..3].iter().map(|card| card[1]).collect();
     assert_eq!(counts, [1, 0, 0]);
-    assert_eq!(lent.cards[0][..5], [1, 1, 3, 0, 20]);
+    assert_eq!(lent.cards[0][..6], [1, 1, 3, 0, 20, 2]);
 }
 
 #[test]

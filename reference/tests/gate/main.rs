@@ -9,3 +9,4 @@ mod histories;
 mod mutants;
 mod program;
 mod refusals;
+mod weights;

@@ -6,7 +6,7 @@ use crate::common::announce;
 use reference::generate::broken::BREAKAGES;
 use reference::generate::random::Random;
 use reference::generate::requests::{flush, look_up, put, request, scan, tidy};
-use reference::lent::{Lent, HEAD_THRESHOLD};
+use reference::lent::{Lent, HEAD_THRESHOLD, ROW_FREE};
 use reference::limits::{LIST_BYTES, VALUE_BYTES};
 use reference::rules::{check, Rule};
 use reference::run::{make, run};
@@ -35,7 +35,7 @@ fn misshapen() -> Vec<(&'static str, Lent)> {
         ("4,097 places", Lent::zeroed(4097)),
         ("a byte too many", with(|lent| lent.area.push(0))),
         ("a card too few", with(|lent| lent.cards.truncate(15))),
-        ("a card too many", with(|lent| lent.cards.push([0; 26]))),
+        ("a card too many", with(|lent| lent.cards.push(ROW_FREE))),
         ("a list item too few", with(|lent| lent.lists.truncate(63))),
         ("a list item too many", with(|lent| lent.lists.push(0))),
     ]

@@ -21,7 +21,7 @@ const LEAST_WIDTH: f64 = 0.5;
 const STYLE: &str =
     "<style>.title{font-size:15px;font-weight:bold}.lane{font-size:13px;font-weight:bold}\
 .note{fill:#555}.on{fill:white;text-anchor:middle}.ice{fill:#123;text-anchor:middle}\
-.row{font-size:7px;fill:#777;text-anchor:end}</style>\n";
+.row{font-size:7px;fill:#777;text-anchor:end}.slice{font-size:7px;fill:#123;text-anchor:middle}</style>\n";
 
 /// The tags so far.
 #[derive(Default)]
@@ -85,17 +85,24 @@ impl Paint {
         self.bar(x, (y - 1.0, height + 2.0), &look, tip);
     }
 
-    /// The label in a bar, where it has room.
+    /// The first of the labels that has room in a bar.
     pub fn label(
         &mut self,
         (x, width): (f64, f64),
         (y, height): (f64, f64),
         class: &str,
-        place: usize,
+        labels: &[String],
     ) {
-        let text = place.to_string();
-        if width > 7.0 * text.len() as f64 + 4.0 && height > 11.0 {
-            self.words(x + width / 2.0, y + height / 2.0 + 4.0, class, &text);
+        let fits = |text: &&String| width > 7.0 * text.len() as f64 + 4.0 && height > 11.0;
+        if let Some(text) = labels.iter().find(fits) {
+            self.words(x + width / 2.0, y + height / 2.0 + 4.0, class, text);
+        }
+    }
+
+    /// A small label in a slice, where it has room.
+    pub fn small(&mut self, (x, width): (f64, f64), (y, height): (f64, f64), text: &str) {
+        if width > 5.0 * text.len() as f64 + 4.0 {
+            self.words(x + width / 2.0, y + height - 1.5, "slice", text);
         }
     }
 

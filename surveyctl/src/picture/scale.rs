@@ -46,9 +46,13 @@ pub fn held<'a>(view: &'a View, link: &Link) -> &'a [Entry] {
     &entries[from..until.max(from)]
 }
 
-/// Whether a table has as many links as make a merge due.
-pub fn due(view: &View, table: &Table) -> bool {
-    table.links.len() as u64 == view.threshold
+/// A table's entries; where it has links, what they weigh against that. As much or more makes a merge due.
+pub fn weighed(table: &Table) -> String {
+    let own = table.entries.len();
+    match table.links[..] {
+        [] => own.to_string(),
+        _ => format!("{}/{own}", table.weight()),
+    }
 }
 
 /// Frozen tables whose links hang on a level, by place.

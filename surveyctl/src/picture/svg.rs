@@ -2,7 +2,7 @@
 //! and the tables below, and a map of all places.
 
 use super::paint::{Paint, FREE, FROZEN, LEFT, LEVELS, MEMORY, MERGED, RIGHT, WIDTH};
-use super::scale::{counted, due, extent, fill, frozen_on, held, states, title, Scale, State};
+use super::scale::{counted, extent, fill, frozen_on, held, states, title, weighed, Scale, State};
 use crate::words::{key_words, range_words};
 use zilgwern::{Entry, Key, Link, Table, View};
 
@@ -76,6 +76,16 @@ fn rows(view: &View, level: usize) -> Vec<Vec<&Table>> {
     rows.into_iter().map(|(_, row)| row).collect()
 }
 
+/// What a table's links weigh against its own entries; nothing where it has none.
+fn weight_words(table: &Table) -> String {
+    let weights = format!("{} against {}", table.weight(), table.entries.len());
+    match table.links.len() {
+        0 => String::new(),
+        1 => format!("; its link weighs {weights}"),
+        count => format!("; its {count} links weigh {weights}"),
+    }
+}
+
 impl Drawing<'_> {
     /// Title, what the width means, and what the colours mean.
     fn head(&mut self) {
@@ -85,7 +95,9 @@ impl Drawing<'_> {
         let words = match self.scale.ends() {
             Some((low, high)) => {
                 let range = range_words(low, high, self.whole);
-                format!("left to right: the keys in their order, {range}, each as wide as the next")
+                let keys = "left to right: the keys in their order";
+                let weights = "5/16 on a table: its links weigh 5 entries, and it has 16 itself";
+                format!("{keys}, {range}, each as wide as the next; {weights}")
             }
             None => "no keys".into(),
         };
@@ -146,7 +158,8 @@ impl Drawing<'_> {
         for table in view.levels[0].iter().rev() {
             let (reach, tip) = (self.reach_of(&table.entries), self.tip("level 0", table));
             self.paint.solid(reach, (self.y, table_height(row)), LEVELS[0], &tip);
-            self.paint.label(reach, (self.y, table_height(row)), "on", table.place);
+            let label = [table.place.to_string()];
+            self.paint.label(reach, (self.y, table_height(row)), "on", &label);
             self.y += row;
         }
         self.y = self.y.max(began + 34.0);
@@ -159,7 +172,7 @@ impl Drawing<'_> {
         if frozen > 0 {
             notes.push(format!("{frozen} frozen above"));
         }
-        match view.levels[level].iter().filter(|table| due(view, table)).count() {
+        match view.levels[level].iter().filter(|table| view.is_due(table)).count() {
             0 => {}
             count => notes.push(format!("{} due", counted(count, "merge", "merges"))),
         }
@@ -204,22 +217,30 @@ impl Drawing<'_> {
     /// A live table: its own keys filled, its span drawn around; in black where a merge is due.
     fn live(&mut self, level: usize, table: &Table, y: f64) {
         let ((low, high), at) = (table.span(), (y, table_height(ROW)));
-        let due = due(self.view, table);
+        let due = self.view.is_due(table);
         let kind = format!("level {level}{}", if due { ", merge due" } else { "" });
-        let (tip, own) = (self.tip(&kind, table), self.reach_of(&table.entries));
+        let (tip, own) =
+            (self.tip(&kind, table) + &weight_words(table), self.reach_of(&table.entries));
         self.paint.span(self.reach(low, high), at, if due { "black" } else { LEVELS[level] }, &tip);
         self.paint.solid(own, at, LEVELS[level], &tip);
-        self.paint.label(own, at, "on", table.place);
+        let place = table.place.to_string();
+        let labels = match table.links[..] {
+            [] => vec![place],
+            _ => vec![format!("{place}: {}", weighed(table)), place],
+        };
+        self.paint.label(own, at, "on", &labels);
     }
 
     /// A link's slice over its table: the oldest lies on it, newer ones above.
     fn slice(&mut self, link: &Link, table: &Table, age: usize, tables: f64) {
-        let count = counted(held(self.view, link).len(), "entry", "entries");
+        let count = counted(link.number, "entry", "entries");
         let range = range_words(link.low, link.high, self.whole);
         let tip =
             format!("link of place {} to place {}: {count}, {range}", table.place, link.place);
         let y = tables - (age + 1) as f64 * SLICE;
-        self.paint.ice(self.reach(link.low, link.high), (y, SLICE - 2.0), FROZEN, &tip);
+        let (reach, at) = (self.reach(link.low, link.high), (y, SLICE - 2.0));
+        self.paint.ice(reach, at, FROZEN, &tip);
+        self.paint.small(reach, at, &link.number.to_string());
     }
 
     /// A line from what each link holds of its frozen table to the link's slice.
@@ -259,7 +280,7 @@ impl Drawing<'_> {
             let tip = format!("{tip}; {} wait", counted(entries.len(), "entry", "entries"));
             self.paint.ice(self.reach_of(entries), y, FROZEN, &tip);
         }
-        self.paint.label(own, y, "ice", table.place);
+        self.paint.label(own, y, "ice", &[table.place.to_string()]);
     }
 
     /// All places as small squares, the cursor with a frame.

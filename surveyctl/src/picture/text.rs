@@ -1,11 +1,12 @@
 //! The picture in a terminal of 80 columns: a line for each table and link, with a bar for its keys.
 
-use super::scale::{counted, due, extent, fill, frozen_on, held, states, title, Scale, State};
+use super::scale::{counted, extent, fill, frozen_on, held, states, title, weighed, Scale, State};
 use crate::words::{key_words, range_words};
 use zilgwern::{Key, Table, View};
 
-/// Columns of a bar.
-const BAR: usize = 32;
+/// Columns of a name with its count, and of a bar.
+const NAME: usize = 19;
+const BAR: usize = 30;
 
 /// Places on one line of the map.
 const MAP: usize = 64;
@@ -64,10 +65,11 @@ impl Drawing<'_> {
     }
 
     /// One line: a name, a count, a bar, and the range in words.
-    fn row(&mut self, name: &str, count: usize, bar: &[char], range: Option<(Key, Key)>) {
+    fn row(&mut self, name: &str, count: &str, bar: &[char], range: Option<(Key, Key)>) {
         let bar: String = bar.iter().collect();
         let words = range.map_or(String::new(), |(low, high)| range_words(low, high, self.whole));
-        self.lines.push(format!("{name:<14}{count:>3}  {bar}  {words}").trim_end().into());
+        let rest = NAME.saturating_sub(name.chars().count());
+        self.lines.push(format!("{name}{count:>rest$}  {bar}  {words}").trim_end().into());
     }
 
     /// A bar without keys.
@@ -84,7 +86,7 @@ impl Drawing<'_> {
     }
 
     /// A row whose bar is one range.
-    fn simple(&mut self, name: &str, count: usize, sign: char, range: Option<(Key, Key)>) {
+    fn simple(&mut self, name: &str, count: &str, sign: char, range: Option<(Key, Key)>) {
         let mut bar = self.bar();
         if let Some((low, high)) = range {
             self.fill(&mut bar, low, high, sign);
@@ -94,7 +96,8 @@ impl Drawing<'_> {
 
     fn memory(&mut self) {
         let range = extent(&self.view.memory);
-        self.simple("memory", self.view.memory.len(), self.signs.own, range);
+        let count = self.view.memory.len().to_string();
+        self.simple("memory", &count, self.signs.own, range);
     }
 
     fn level(&mut self, level: usize) {
@@ -104,14 +107,14 @@ impl Drawing<'_> {
         self.lines.push(format!("level {level}: {}{order}{}", fill(view, level), self.due(level)));
         for table in tables {
             let name = format!("  place {}", table.place);
-            self.simple(&name, table.entries.len(), self.signs.own, extent(&table.entries));
+            self.simple(&name, &weighed(table), self.signs.own, extent(&table.entries));
             self.links(table);
         }
     }
 
-    /// The places of tables with as many links as make a merge due.
+    /// The places of tables of which a merge is due.
     fn due(&self, level: usize) -> String {
-        let due = self.view.levels[level].iter().filter(|table| due(self.view, table));
+        let due = self.view.levels[level].iter().filter(|table| self.view.is_due(table));
         let places: Vec<String> = due.map(|table| table.place.to_string()).collect();
         let (named, others) = places.split_at(places.len().min(NAMED));
         let more = match others.len() {
@@ -129,8 +132,8 @@ impl Drawing<'_> {
     fn links(&mut self, table: &Table) {
         for link in table.links.iter().rev() {
             let name = format!("  {} place {}", self.signs.arrow, link.place);
-            let count = held(self.view, link).len();
-            self.simple(&name, count, self.signs.link, Some((link.low, link.high)));
+            let range = Some((link.low, link.high));
+            self.simple(&name, &link.number.to_string(), self.signs.link, range);
         }
     }
 
@@ -155,7 +158,8 @@ impl Drawing<'_> {
                     self.fill(&mut bar, low, high, self.signs.waits);
                 }
             }
-            self.row(&format!("  place {}", table.place), table.entries.len(), &bar, range);
+            let (name, count) = (format!("  place {}", table.place), table.entries.len());
+            self.row(&name, &count.to_string(), &bar, range);
         }
     }
 
@@ -164,6 +168,9 @@ impl Drawing<'_> {
         let Signs { own, link, merged, .. } = self.signs;
         let slices = format!("{link} the slice of a link, {merged} merged already");
         self.lines.push(format!("entries: {own} a table's own keys, {slices}"));
+        let links = counted(self.view.threshold as usize, "link", "links");
+        let due = format!("a merge is due at {links}, or at m/m or more");
+        self.lines.push(format!("n/m: m own entries, n in links; {due}"));
         self.lines.push("places: . free, 0 to 3 live on that level, f frozen".into());
         let sign = |state: &State| match state {
             State::Free => '.',

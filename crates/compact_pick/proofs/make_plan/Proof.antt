@@ -1,23 +1,23 @@
 -- `make_plan` meets its contract: by what the due table, the level and the choice gave.
 use Prim.Native.Nat.{ℕ, _<_}
 use mathlib.Core.Path.{_≡_, sym, _∙_, ap}
+use mathlib.Core.List.{[]}
 use native.Mathlib.Omega.{arith}
 use borrow.Author.Needs.{needs}
 use lib.ListN.{length}
 use Rattle.ldc.specs.Store.{Store, lastLevel}
 use Rattle.ldc.specs.Layout.{levelCount, lengthIn, itemsIn}
 use Rattle.book.specs.Head.{headWords}
+use Rattle.book.specs.Pieces.{lent}
 use Rattle.book.specs.Place.{theIndex}
-use Rattle.compact_pick.specs.Due.{theDue, Booked}
+use Rattle.compact_pick.specs.Due.{theDue, ToldBy}
 use Rattle.compact_pick.specs.Plan.{levelPlan, planOf}
-use Rattle.compact_pick.proofs.Plans.{listed, items, lists-of, short, items-long, overfull-by, full-some, plan-due, plan-level, plan-idle}
+use Rattle.compact_pick.proofs.Plans.{items, short, items-long, overfull-by, full-some, plan-due, plan-level, plan-idle}
 use Rattle.compact_pick.proofs.make_plan.Statement.{statement}
 use Rattle.compact_pick.proofs.make_plan.Tie as tie
 
 find-due-requires : tie.Need-find-due-requires
-find-due-requires c κs =
-    let a = c .before .before .args in
-    lists-of (a .area .now) (a .cards .now) (a .lists .now) (headWords (a .head)) (c .before .before .pre)
+find-due-requires c κs = c .before .before .pre
 
 enum-known-n : tie.Need-enum-known-n
 enum-known-n c = search needs
@@ -25,7 +25,7 @@ enum-known-n c = search needs
 returns : tie.Need-returns
 returns c s w =
     let d = c .before .before .before in
-    sym (plan-due s (c .before .n .given .0 .0) (c .before .n .given .0 .1 .0) (sym (d .find-due .ensures s (w .booked)) ∙ ap theDue (c .before .n .given .1)))
+    sym (plan-due s (c .before .n .given .0 .0) (c .before .n .given .0 .1 .0) (sym (d .find-due .ensures s w) ∙ ap theDue (c .before .n .given .1)))
 
 enum-told : tie.Need-enum-told
 enum-told c = search needs
@@ -38,12 +38,12 @@ find-overfull-requires c κs =
 -- No table is due, so the plan is that of the level.
 levelled : (c : tie.After-find-overfull)
     → let b = c .before .before .before .before .before .before in
-    (s : Store) → Booked s (b .args .cards .now) (b .args .lists .now) (headWords (b .args .head)) → planOf s ≡ levelPlan s (theIndex (c .find-overfull .result))
+    (s : Store) → ToldBy s (lent (b .args .area .now) (b .args .cards .now) (b .args .lists .now) (headWords (b .args .head)) []) → planOf s ≡ levelPlan s (theIndex (c .find-overfull .result))
 levelled c s w =
     let b = c .before .before .before .before .before .before in
     let d = c .before .before .before in
     plan-level s (sym (d .find-due .ensures s w) ∙ ap theDue (c .before .enum-told .given .1))
-    ∙ ap (levelPlan s) (sym (c .find-overfull .ensures ∙ overfull-by (b .args .area .now) (b .args .cards .now) (b .args .lists .now) (headWords (b .args .head)) (b .pre) s w))
+    ∙ ap (levelPlan s) (sym (c .find-overfull .ensures ∙ overfull-by (b .args .area .now) (b .args .cards .now) (b .args .lists .now) (headWords (b .args .head)) (b .pre) s (w .booked)))
 
 enum-known-n-2 : tie.Need-enum-known-n-2
 enum-known-n-2 c = search needs
@@ -53,7 +53,7 @@ enum-told-2 c = search needs
 
 returns-2 : tie.Need-returns-2
 returns-2 c s w =
-    sym (levelled (c .before .before) s (w .booked) ∙ ap (λ o. levelPlan s (theIndex o)) (c .enum-told2 .given .1) ∙ plan-idle s)
+    sym (levelled (c .before .before) s w ∙ ap (λ o. levelPlan s (theIndex o)) (c .enum-told2 .given .1) ∙ plan-idle s)
 
 -- The level has a capacity, and tables.
 found : (c : tie.After-known-told2)
@@ -94,7 +94,6 @@ choose-requires c κs =
     let four : n < levelCount = omega (arith, f .0) in
     rw (lent-items i)
     (record {
-      listed = listed (a .area .now) (a .cards .now) (a .lists .now) (headWords (a .head)) (b .pre) n four;
       carded = items (a .area .now) (a .cards .now) (a .lists .now) (headWords (a .head)) (b .pre) n four;
       some-item = rw (items-long (a .area .now) (a .cards .now) (a .lists .now) (headWords (a .head)) (b .pre) n four) (f .1);
     })
@@ -113,7 +112,7 @@ returns-3 c s w =
       level-items = w .booked .levels n four ∙ sym (lent-items i);
       level-mark = w .booked .marks n ∙ sym (c .before .mark-of .ensures);
     })
-    ∙ sym (levelled o s (w .booked) ∙ ap (λ f. levelPlan s (theIndex f)) (k .before .n2 .given .1))
+    ∙ sym (levelled o s w ∙ ap (λ f. levelPlan s (theIndex f)) (k .before .n2 .given .1))
 
 pub make-plan-spec : {M : Type 1} → statement M
 make-plan-spec =

@@ -11,7 +11,7 @@ use lib.Dec.{eqb}
 use lib.ListN.{drop-of-length-le, length, getD, take, drop, length-append, length-drop, take-append-drop}
 use lib.Seq.{drop-cons, take-at, drop-at, drop-drop, length-take-le}
 use Rattle.table.proofs.Tests.{and-parts, cases}
-use Rattle.ldc.specs.Lists.{all, any, keep, howMany, flat, isEmpty, allFrom}
+use Rattle.ldc.specs.Lists.{all, any, keep, first, howMany, flat, isEmpty, allFrom}
 
 -- ---- tests of all and of any
 
@@ -46,6 +46,13 @@ module _ {ℓ} {A : Type ℓ} where
   pub getD-mem : (xs : List A) (d : A) {x : A} → List·Memᴰ x xs → (i : ℕ) × (i < length xs) × (getD xs i d ≡ x)
   getD-mem (y ∷ xs) d (List·Memᴰ·head e) = (zero, omega arith, sym e)
   getD-mem (y ∷ xs) d (List·Memᴰ·tail m) = let r = getD-mem xs d m in (suc (r .0), omega (arith, r .1), r .2)
+
+  -- Tests that agree on a list find the same.
+  pub first-same : (t u : A → Bool) (xs : List A) (d : A) → ((i : ℕ) → i < length xs → t (getD xs i d) ≡ u (getD xs i d)) → first t xs ≡ first u xs
+  first-same t u [] d h = refl
+  first-same t u (x ∷ xs) d h =
+      let here : t x ≡ u x = h 0 (omega arith) in
+      rw (here, first-same t u xs d (λ i k. h (suc i) (omega arith)))
 
   -- A list by its elements, n of them from an index on.
   abbrev pub spelled : (n from : ℕ) → A → List A → List A

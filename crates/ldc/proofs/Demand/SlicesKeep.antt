@@ -13,13 +13,13 @@ use Rattle.table.specs.Entry.{Entry}
 use Rattle.table.specs.Limits.{tableLimit}
 use Rattle.table.specs.Search.{find}
 use Rattle.ldc.specs.Lists.{keep, isEmpty, isSome}
-use Rattle.ldc.specs.Store.{Link, Store, card, links, bytesAt, level}
+use Rattle.ldc.specs.Store.{Link, Store, card, links, bytesAt, table, level}
 use Rattle.ldc.specs.Request.{Request, Served, known, bodyGood, keyIn, highIn, valueIn, only}
 use Rattle.ldc.specs.Memtable.{servePut}
 use Rattle.ldc.specs.Place.{freePlaces, flushed, serveFlush}
 use Rattle.ldc.specs.Read.{lookUp, serveLookUp, serveScan, serveReport}
 use Rattle.ldc.specs.Tidy.{Slice, Step, idle, refused, moved, linked, merged, tidyStep, slicesOf, mergedTables}
-use Rattle.ldc.specs.Steps.{stepServed, serveTidy, doLink, doMerge}
+use Rattle.ldc.specs.Steps.{stepServed, serveTidy, linkTo, doLink, doMerge}
 use Rattle.ldc.specs.Serve.{serve}
 use Rattle.ldc.specs.History.{Unmerged, hangsOn, linkOf, stepOf, afterStep}
 use Rattle.ldc.proofs.Steps.Apart.{keep-append}
@@ -43,11 +43,12 @@ use Rattle.ldc.proofs.Stores.Written.{member-map}
 abbrev added : Store → ℕ → List Slice → List Unmerged
 added s p xs = map (λ x. record { slice = x; held = bytesAt s p }) xs
 
-added-links : (s : Store) (p q : ℕ) (xs : List Slice) → map linkOf (keep (hangsOn q) (added s p xs)) ≡ gains q xs
+added-links : (s : Store) (p q : ℕ) (xs : List Slice) → map linkOf (keep (hangsOn q) (added s p xs)) ≡ gains (table s p) q xs
+unfolding table
 added-links s p q [] = refl
 added-links s p q (x ∷ xs) =
     cases (eqb (x .on) q)
-    (λ e. rw e (ap (λ (ls : List Link). record { place = x .place; low = x .low; high = x .high } ∷ ls) (added-links s p q xs)))
+    (λ e. rw e (ap (λ (ls : List Link). linkTo (table s p) x ∷ ls) (added-links s p q xs)))
     (λ e. rw e (added-links s p q xs))
 
 map-append : (xs ys : List Unmerged) → map linkOf (xs ++ ys) ≡ map linkOf xs ++ map linkOf ys

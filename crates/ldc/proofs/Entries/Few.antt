@@ -1,6 +1,8 @@
--- How many entries can come together: what is kept of a list is no longer than it, and what is gathered of lists no longer than all of them.
+-- How many entries there are in a range, and how many can come together: what is kept of a list is no longer than it, and what is gathered
+-- of lists no longer than all of them.
 -- Lists of entries that are all valid have sixteen each.
 use Prim.Native.Nat.{ℕ, suc, _*_, _+_, _≤_, _^_}
+use mathlib.Core.Path.{_≡_, refl, ap}
 use mathlib.Core.Bool.{Bool, _&&_}
 use mathlib.Core.List.{List, [], _∷_, _++_}
 use native.Mathlib.Omega.{arith}
@@ -8,6 +10,7 @@ use lib.Dec.{leb, ltb, eqb}
 use lib.ListN.{length}
 use Rattle.table.specs.Limits.{tableLimit}
 use Rattle.table.specs.Entry.{Entry}
+use Rattle.table.specs.Search.{countWithin}
 use Rattle.table.specs.Valid.{Valid}
 use Rattle.ldc.specs.Lists.{keep}
 use Rattle.ldc.specs.Store.{within}
@@ -22,6 +25,14 @@ pub keep-few : (test : Entry → Bool) (es : List Entry) → length (keep test e
 keep-few test [] = omega arith
 keep-few test (e ∷ es) =
     let r = keep-few test es in cases (test e) (λ q. rw q (omega arith)) (λ q. rw q (omega arith))
+
+-- Those of a range, counted as `table` counts them.
+pub count-within : (low high : ℕ) (es : List Entry) → countWithin low high es ≡ length (within low high es)
+unfolding countWithin within
+count-within low high [] = refl
+count-within low high (e ∷ es) =
+    let r = count-within low high es in
+    cases (leb low (e .key) && leb (e .key) high) (λ q. rw q (ap suc r)) (λ q. rw q r)
 
 put-few : (e : Entry) (es : List Entry) → length (put e es) ≤ suc (length es)
 put-few e [] = omega arith

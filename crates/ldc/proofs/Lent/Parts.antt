@@ -1,5 +1,5 @@
 -- There and back for each piece of the book by itself: a card and its row, a mark and its two words, a level list and its part of
--- the lists. Rows go by induction on the links, three words at a time.
+-- the lists. Rows go by induction on the links, four words at a time.
 use Prim.Native.Nat.{ℕ, zero, suc, _+_, _*_, _-_, _≤_, min}
 use mathlib.Core.Path.{_≡_, refl, sym, _∙_, ap}
 use mathlib.Core.Bool.{true, _&&_}
@@ -27,29 +27,32 @@ links-back : (ls : List Link) (row : List ℕ) (at : ℕ) (rest : List ℕ) → 
     → linksAt (length ls) row at ≡ ls
 links-back [] row at rest h = refl
 links-back (l ∷ ls) row at rest h =
-    let word : (i : ℕ) → getD row (at + i) 0 ≡ getD (l .place ∷ l .low ∷ l .high ∷ (linkWords ls ++ rest)) i 0 =
+    let word : (i : ℕ) → getD row (at + i) 0 ≡ getD (l .place ∷ l .low ∷ l .high ∷ l .number ∷ (linkWords ls ++ rest)) i 0 =
     λ i. sym (getD-drop at row i 0) ∙ ap (λ (s : List ℕ). getD s i 0) h in
     let first : getD row at 0 ≡ l .place = rw (add-zero at) at (word 0) in
-    let next : drop (at + 3) row ≡ linkWords ls ++ rest = sym (drop-drop 3 at row) ∙ ap (λ (s : List ℕ). drop 3 s) h in
-    rw (first, word 1, word 2, links-back ls row (at + 3) rest next)
+    let next : drop (at + linkSize) row ≡ linkWords ls ++ rest = sym (drop-drop linkSize at row) ∙ ap (λ (s : List ℕ). drop linkSize s) h in
+    rw (first, word 1, word 2, word 3, links-back ls row (at + linkSize) rest next)
 
 -- The words of the links read at a position are those that stand there.
-words-back : (n : ℕ) (row : List ℕ) (at : ℕ) → at + 3 * n ≤ length row → linkWords (linksAt n row at) ≡ take (3 * n) (drop at row)
+words-back : (n : ℕ) (row : List ℕ) (at : ℕ) → at + linkSize * n ≤ length row → linkWords (linksAt n row at) ≡ take (linkSize * n) (drop at row)
 words-back zero row at h = refl
 words-back (suc n) row at h =
-    let e : 3 * suc n ≡ suc (suc (suc (3 * n))) = omega arith in
+    let e : linkSize * suc n ≡ suc (suc (suc (suc (linkSize * n)))) = omega arith in
     let one : at + 1 ≡ suc at = omega arith in
     let two : at + 2 ≡ suc (suc at) = omega arith in
     let three : at + 3 ≡ suc (suc (suc at)) = omega arith in
-    let r = words-back n row (suc (suc (suc at))) (omega arith) in
+    let four : at + linkSize ≡ suc (suc (suc (suc at))) = omega arith in
+    let r = words-back n row (suc (suc (suc (suc at)))) (omega arith) in
     rw (
       e,
       one,
       two,
       three,
+      four,
       drop-cons row at 0 (omega arith),
       drop-cons row (suc at) 0 (omega arith),
       drop-cons row (suc (suc at)) 0 (omega arith),
+      drop-cons row (suc (suc (suc at))) 0 (omega arith),
       r,
     )
 

@@ -15,6 +15,7 @@ use Rattle.ldc.proofs.Serving.Alike.{Alike, alike-is, links-alike, leve
 use Rattle.ldc.proofs.Basics.Cases.{maybe}
 use Rattle.ldc.proofs.Stores.CardFacts.{live-not-free, frozen-not-free}
 use Rattle.ldc.proofs.Stores.Facts.{listed-live, link-frozen}
+use Rattle.ldc.proofs.Basics.ListLaws.{mem-getD, first-same}
 use Rattle.ldc.proofs.Stores.Frame.{map-cong, table-same, slice-same, spanEnd-same, sources-same}
 use Rattle.ldc.proofs.Steps.Ranges.{reaches}
 use Rattle.ldc.proofs.Basics.Replaced.{member-reverse}
@@ -74,9 +75,18 @@ module _ (s s′ : Store) (S : Sound s) (a : Alike s s′) where
 
   -- ---- the step that is due
 
+  -- a due table is one of a level, and its entries are counted there
+  dues-alike : (n : ℕ) → first (due s′) (level s′ n) ≡ first (due s) (level s n)
+  unfolding due
+  dues-alike n =
+      rw (level-alike s s′ a n)
+      (first-same (due s′) (due s) (level s n) 0
+      (λ i h. let p : ℕ = getD (level s n) i 0 in
+      rw (links-alike s s′ a p, table-alike n p (mem-getD (level s n) i 0 h), a .same-threshold)))
+
   due-alike : dueTable s′ ≡ dueTable s
-  unfolding dueTable due links card level
-  due-alike = ap dueTable (alike-is s s′ a)
+  unfolding dueTable
+  due-alike = rw (dues-alike 1, dues-alike 2, dues-alike 3)
 
   overfull-alike : overfull s′ ≡ overfull s
   unfolding overfull level

@@ -16,7 +16,7 @@ use Rattle.ldc.specs.Store.{Card, free, live, frozen, isFree, Store, siz
 use Rattle.ldc.specs.Rules.{named}
 use Rattle.ldc.specs.Place.{nextPlace, placeTaken, written, writtenAll, placesTaken, flushed}
 use Rattle.ldc.specs.Tidy.{Slice, mergedTables, tidyStep, moved, linked, merged}
-use Rattle.ldc.specs.Steps.{replaced, marksAfter, leaves, doMove, hang, doLink, release, doMerge}
+use Rattle.ldc.specs.Steps.{replaced, marksAfter, leaves, doMove, linkTo, hang, doLink, release, doMerge}
 use Rattle.ldc.proofs.Serving.Alike.{Alike, size-alike, links-alike, level-alike, named-alike, taken-alike}
 use Rattle.ldc.proofs.Serving.AlikeReads.{listed-bytes, table-alike, merged-alike}
 use Rattle.ldc.proofs.Basics.Cases.{cases, clash}
@@ -160,13 +160,13 @@ alike-flush s s′ a =
 -- ---- the steps of a tidy
 
 -- Links are hung on places whose bytes agree.
-alike-hang : (rs : List Slice) (s s′ : Store) → Alike s s′ → ((r : Slice) → List·Memᴰ r rs → bytesAt s′ (r .on) ≡ bytesAt s (r .on))
-    → Alike (hang rs s) (hang rs s′)
-alike-hang [] s s′ a h = a
-alike-hang (r ∷ rs) s s′ a h =
-    let c = live (links s (r .on) ++ (record { place = r .place; low = r .low; high = r .high } ∷ [])) in
+alike-hang : (es : List Entry) (rs : List Slice) (s s′ : Store) → Alike s s′ → ((r : Slice) → List·Memᴰ r rs → bytesAt s′ (r .on) ≡ bytesAt s (r .on))
+    → Alike (hang es rs s) (hang es rs s′)
+alike-hang es [] s s′ a h = a
+alike-hang es (r ∷ rs) s s′ a h =
+    let c = live (links s (r .on) ++ (linkTo es r ∷ [])) in
     rw (links-alike s s′ a (r .on))
-    (alike-hang rs (withCard (r .on) c s) (withCard (r .on) c s′) (alike-card s s′ a (r .on) c (λ _. h r (List·Memᴰ·head refl)))
+    (alike-hang es rs (withCard (r .on) c s) (withCard (r .on) c s′) (alike-card s s′ a (r .on) c (λ _. h r (List·Memᴰ·head refl)))
     (λ x m. unfold bytesAt in h x (List·Memᴰ·tail m)))
 
 alike-release : (fs : List ℕ) (s s′ : Store) → Alike s s′ → Alike (release fs s) (release fs s′)
@@ -199,9 +199,10 @@ module _ (s s′ : Store) (S : Sound s) (a : Alike s s′) (n p : ℕ) where
   alike-link xs e =
       let l = step-linked s S n p xs e in
       let on = l .chosen .on in
-      alike-hang xs (withCard p frozen (leaves n p s)) (withCard p frozen (leaves n p s′))
+      rw (table-alike s s′ S a n p on)
+      (alike-hang (table s p) xs (withCard p frozen (leaves n p s)) (withCard p frozen (leaves n p s′))
       (alike-card (leaves n p s) (leaves n p s′) (alike-leaves on) p frozen (λ _. unfold leaves bytesAt in listed-bytes s s′ S a n p on))
-      (λ r m. unfold leaves bytesAt in listed-bytes s s′ S a (suc n) (r .on) (slice-member s n p r (rw (l .slices) at m) .1))
+      (λ r m. unfold leaves bytesAt in listed-bytes s s′ S a (suc n) (r .on) (slice-member s n p r (rw (l .slices) at m) .1)))
 
   pub alike-merge : tidyStep s ≡ merged n p → Alike (doMerge n p s) (doMerge n p s′)
   unfolding doMerge

@@ -13,7 +13,7 @@ use Rattle.ldc.specs.Store.{Link, Store, within, spanEnd}
 use Rattle.ldc.specs.Rules.{Hung, apart, allApart}
 use Rattle.ldc.specs.Tidy.{greatest}
 use Rattle.ldc.proofs.Basics.Cases.{cases, clash, both, both-left, both-right, either-left, either-right}
-use Rattle.ldc.proofs.Steps.Ranges.{Assigned}
+use Rattle.ldc.proofs.Steps.Ranges.{newLink, Assigned}
 use Rattle.ldc.specs.Facts.{Spans}
 
 module _ {A : Type 0} where
@@ -96,9 +96,9 @@ newIn i gain qs = flat (map (λ q. map (λ l. record { on = i; link = l }) (gain
 abbrev after : (level place from : ℕ) → Hung → Bool
 after i p from h = eqb (h .on) i && (eqb (h .link .place) p && leb from (h .link .low))
 
-after-apart : (i p from to : ℕ) (y : Hung) → after i p (suc to) y ≡ true → apart (record { on = i; link = record { place = p; low = from; high = to } }) y ≡ true
+after-apart : (es : List Entry) (i p from to : ℕ) (y : Hung) → after i p (suc to) y ≡ true → apart (record { on = i; link = newLink es p from to }) y ≡ true
 unfolding apart
-after-apart i p from to y h =
+after-apart es i p from to y h =
     let a : y .on ≡ i = eqb-true (y .on) i (both-left (eqb (y .on) i) (eqb (y .link .place) p && leb (suc to) (y .link .low)) h) in
     let b = both-right (eqb (y .on) i) (eqb (y .link .place) p && leb (suc to) (y .link .low)) h in
     let c : suc to ≤ y .link .low = leb-true (suc to) (y .link .low) (both-right (eqb (y .link .place) p) (leb (suc to) (y .link .low)) b) in
@@ -121,7 +121,7 @@ module _ (s : Store) (es : List Entry) (p i : ℕ) (gain : ℕ → List Link) wh
   new-apart from (q ∷ []) sp a =
       cases (isEmpty (within from greatest es))
       (λ e. let z : gain q ≡ [] = a ∙ rw e in rw z (refl, refl))
-      (λ e. let z : gain q ≡ record { place = p; low = from; high = greatest } ∷ [] = a ∙ rw e in
+      (λ e. let z : gain q ≡ newLink es p from greatest ∷ [] = a ∙ rw e in
       rw (z, eq-eqb i i refl, eq-eqb p p refl, le-leb from from (omega arith)) (refl, refl))
   new-apart from (q ∷ x ∷ qs) sp a =
       let r = new-apart (suc (spanEnd s q)) (x ∷ qs) (sp .2) (a .1) in
@@ -129,11 +129,11 @@ module _ (s : Store) (es : List Entry) (p i : ℕ) (gain : ℕ → List Link) wh
       (after-lower i p (suc (spanEnd s q)) from (omega (arith, sp .0, sp .1))) (r .1) in
       cases (isEmpty (within from (spanEnd s q) es))
       (λ e. let z : gain q ≡ [] = a .0 ∙ rw e in rw z (r .0, low))
-      (λ e. let z : gain q ≡ record { place = p; low = from; high = spanEnd s q } ∷ [] = a .0 ∙ rw e in
+      (λ e. let z : gain q ≡ newLink es p from (spanEnd s q) ∷ [] = a .0 ∙ rw e in
       rw (z, eq-eqb i i refl, eq-eqb p p refl, le-leb from from (omega arith)) (
-        both (all (apart (record { on = i; link = record { place = p; low = from; high = spanEnd s q } })) (newIn i gain (x ∷ qs))) (allApart (newIn i gain (x ∷ qs)))
-            (all-mono (after i p (suc (spanEnd s q))) (apart (record { on = i; link = record { place = p; low = from; high = spanEnd s q } }))
-            (newIn i gain (x ∷ qs)) (after-apart i p from (spanEnd s q)) (r .1))
+        both (all (apart (record { on = i; link = newLink es p from (spanEnd s q) })) (newIn i gain (x ∷ qs))) (allApart (newIn i gain (x ∷ qs)))
+            (all-mono (after i p (suc (spanEnd s q))) (apart (record { on = i; link = newLink es p from (spanEnd s q) }))
+            (newIn i gain (x ∷ qs)) (after-apart es i p from (spanEnd s q)) (r .1))
             (r .0),
         low,
       ))

@@ -6,7 +6,7 @@ use mathlib.Core.List.{List, [], _∷_, _++_, append-nil, List·Memᴰ, List·Me
 use mathlib.Core.Bool.{Bool, true, false, cond, not}
 use mathlib.Core.Logic.{⊎-elim}
 use native.Mathlib.Omega.{arith}
-use borrow.Author.Tests.{eqb-true, eqb-false, le-leb}
+use borrow.Author.Tests.{eq-eqb, eqb-true, eqb-false, le-leb}
 use lib.Dec.{eqb}
 use lib.ListN.{length, set, length-set, length-append}
 use Rattle.table.specs.Entry.{Entry}
@@ -27,7 +27,7 @@ use Rattle.ldc.proofs.Steps.LinkShape.{gains-none, link-links, link-cho
 use Rattle.ldc.proofs.Steps.LinkSpans.{range-order, link-spans, assigned-at, any-gains, all-range}
 use Rattle.ldc.proofs.Steps.Move.{replaced-member, at-level, hungIn-bare}
 use Rattle.ldc.proofs.Stores.Naming.{named-intro, named-elim, agree}
-use Rattle.ldc.proofs.Steps.Ranges.{gained, Assigned}
+use Rattle.ldc.proofs.Steps.Ranges.{newLink, gained, Assigned}
 use Rattle.ldc.proofs.Basics.Replaced.{split, replaced-counted}
 use Rattle.ldc.proofs.Stores.Sound.{Sound, TablePlace}
 use Rattle.ldc.proofs.Steps.StepFacts.{slice-member}
@@ -40,7 +40,7 @@ module _ (s : Store) (S : Sound s) (n p : ℕ) (below : n ≤ 2) (m : List·Mem�
   after = doLink n p (slicesOf s n p) s
 
   gain : ℕ → List Link
-  gain q = gains q (slicesOf s n p)
+  gain q = gains (table s p) q (slicesOf s n p)
 
   p-live : isLive (card s p) ≡ true
   p-live = listed-live s S n p m
@@ -143,19 +143,19 @@ module _ (s : Store) (S : Sound s) (n p : ℕ) (below : n ≤ 2) (m : List·Mem�
 
   gain-none : (q : ℕ) → (List·Memᴰ q (level s (suc n)) → ⊥) → gain q ≡ []
   unfolding gain
-  gain-none q d = gains-none q (slicesOf s n p) (λ r h e. d (Memᴰ·cast (sym e) (slice-member s n p r h .1)))
+  gain-none q d = gains-none (table s p) q (slicesOf s n p) (λ r h e. d (Memᴰ·cast (sym e) (slice-member s n p r h .1)))
 
-  gain-link : (q : ℕ) (l : Link) → List·Memᴰ l (gain q) → (a : ℕ) × ((b : ℕ) × ((l ≡ record { place = p; low = a; high = b }) × (isEmpty (within a b es) ≡ false)))
+  gain-link : (q : ℕ) (l : Link) → List·Memᴰ l (gain q) → (a : ℕ) × ((b : ℕ) × ((l ≡ newLink es p a b) × (isEmpty (within a b es) ≡ false)))
   gain-link q l h =
       member-or-not q (level s (suc n))
       (λ k. let g = gain-at q k in
       cases (isEmpty (within (g .0) (g .1 .0) es))
       (λ e. let z : gain q ≡ [] = g .1 .1 ∙ rw e in absurd (List·Memᴰ·not-nil (rw z at h)))
-      (λ e. let z : gain q ≡ record { place = p; low = g .0; high = g .1 .0 } ∷ [] = g .1 .1 ∙ rw e in
+      (λ e. let z : gain q ≡ newLink es p (g .0) (g .1 .0) ∷ [] = g .1 .1 ∙ rw e in
       (g .0, (g .1 .0, (List·Memᴰ·eq-of-singleton (rw z at h), e)))))
       (λ d. absurd (List·Memᴰ·not-nil (rw (gain-none q d) at h)))
 
-  new-slice : (a b : ℕ) → slice s (record { place = p; low = a; high = b }) ≡ within a b es
+  new-slice : (a b : ℕ) → slice s (newLink es p a b) ≡ within a b es
   unfolding slice
   new-slice a b = refl
 
@@ -167,7 +167,7 @@ module _ (s : Store) (S : Sound s) (n p : ℕ) (below : n ≤ 2) (m : List·Mem�
       let g = gain-at q h in
       cases (isEmpty (within (g .0) (g .1 .0) es))
       (λ e. let z : gain q ≡ [] = g .1 .1 ∙ rw e in rw z (omega arith))
-      (λ e. let z : gain q ≡ record { place = p; low = g .0; high = g .1 .0 } ∷ [] = g .1 .1 ∙ rw e in rw z (omega arith))
+      (λ e. let z : gain q ≡ newLink es p (g .0) (g .1 .0) ∷ [] = g .1 .1 ∙ rw e in rw z (omega arith))
 
   same-threshold : after .threshold ≡ s .threshold
   unfolding after
@@ -185,9 +185,9 @@ module _ (s : Store) (S : Sound s) (n p : ℕ) (below : n ≤ 2) (m : List·Mem�
   old-other : (q : ℕ) (l : Link) → List·Memᴰ l (links s q) → l .place ≡ p → ⊥
   old-other q l h e = clash (rw e at (link-frozen s S q l h)) (live-not-frozen (card s p) p-live)
 
-  new-good : (a b : ℕ) → isEmpty (within a b es) ≡ false → linkGood after (record { place = p; low = a; high = b }) ≡ true
+  new-good : (a b : ℕ) → isEmpty (within a b es) ≡ false → linkGood after (newLink es p a b) ≡ true
   unfolding linkGood
-  new-good a b e = rw (le-leb a b (range-order a b es e), chosen-frozen, same-slice (record { place = p; low = a; high = b }), new-slice a b, e)
+  new-good a b e = rw (le-leb a b (range-order a b es e), chosen-frozen, same-slice (newLink es p a b), new-slice a b, e, eq-eqb (length (within a b es)) (length (within a b es)) refl)
 
   link-hung : (q : ℕ) (l : Link) → List·Memᴰ l (links after q) → linkGood after l ≡ true
   unfolding linkGood

@@ -19,7 +19,7 @@ use Rattle.ldc.proofs.Basics.Cases.{cases}
 use Rattle.ldc.proofs.Basics.ListLaws.{empty-list}
 use Rattle.ldc.proofs.Entries.Finds.{orElse, orElse-assoc, find-append, find-within}
 use Rattle.ldc.proofs.Entries.Keys.{find-above}
-use Rattle.ldc.proofs.Steps.Ranges.{gained, Assigned}
+use Rattle.ldc.proofs.Steps.Ranges.{newLink, gained, Assigned}
 use Rattle.ldc.proofs.Stores.Spans.{Readable, reads, read-outside}
 use Rattle.ldc.specs.Facts.{Spans}
 
@@ -36,7 +36,7 @@ module _ (s s′ : Store) (same : s′ .places ≡ s .places) (p : ℕ) where
   slices-kept [] = refl
   slices-kept (l ∷ ls) = ap₂ (λ (x : List Entry) (xs : List (List Entry)). x ∷ xs) (slice-kept l) (slices-kept ls)
 
-  slice-new : (from to : ℕ) → slice s′ (record { place = p; low = from; high = to }) ≡ within from to (table s p)
+  slice-new : (from to : ℕ) → slice s′ (newLink (table s p) p from to) ≡ within from to (table s p)
   unfolding slice
   slice-new from to = rw (table-kept p)
 
@@ -49,7 +49,7 @@ module _ (s s′ : Store) (same : s′ .places ≡ s .places) (p : ℕ) where
       (λ y. let z : within from to (table s p) ≡ [] = empty-list (within from to (table s p)) y in
       let e′ : links s′ q ≡ links s q = rw y at e ∙ append-nil (links s q) in
       rw (z, e′, slices-kept (reverse (links s q)), table-kept q))
-      (λ y. let l : Link = record { place = p; low = from; high = to } in
+      (λ y. let l : Link = newLink (table s p) p from to in
       let e′ : links s′ q ≡ links s q ++ (l ∷ []) = rw y at e in
       let c : slice s′ l ≡ within from to (table s p) = slice-new from to in
       rw (e′, reverse-append (links s q) (l ∷ []), slices-kept (reverse (links s q)), table-kept q, c)

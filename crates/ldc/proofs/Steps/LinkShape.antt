@@ -9,6 +9,7 @@ use borrow.Author.Tests.{eqb-true, eqb-false, ne-eqb}
 use lib.Dec.{eqb}
 use lib.ListN.{length, getD, set}
 use lib.Seq.{getD-set-same, getD-set-other}
+use Rattle.table.specs.Entry.{Entry}
 use Rattle.ldc.specs.Store.{Link, Card, frozen, Store, size, card, links, isLive, isFrozen, bytesAt, table, level, withCard}
 use Rattle.ldc.specs.Tidy.{Slice, slicesOf}
 use Rattle.ldc.specs.Steps.{replaced, leaves, doLink}
@@ -24,9 +25,9 @@ use Rattle.ldc.proofs.Stores.Sound.{Sound}
 use Rattle.ldc.proofs.Steps.StepFacts.{slice-member}
 
 -- A table that none hangs on gains nothing.
-pub gains-none : (q : ℕ) (rs : List Slice) → ((r : Slice) → List·Memᴰ r rs → r .on ≡ q → ⊥) → gains q rs ≡ []
-gains-none q [] h = refl
-gains-none q (r ∷ rs) h = rw (ne-eqb (r .on) q (h r (List·Memᴰ·head refl))) (gains-none q rs (λ x m. h x (List·Memᴰ·tail m)))
+pub gains-none : (es : List Entry) (q : ℕ) (rs : List Slice) → ((r : Slice) → List·Memᴰ r rs → r .on ≡ q → ⊥) → gains es q rs ≡ []
+gains-none es q [] h = refl
+gains-none es q (r ∷ rs) h = rw (ne-eqb (r .on) q (h r (List·Memᴰ·head refl))) (gains-none es q rs (λ x m. h x (List·Memᴰ·tail m)))
 
 pub one-small : (b : Bool) → one b ≤ 1
 one-small true = omega arith
@@ -69,50 +70,50 @@ module _ (s : Store) (S : Sound s) (n p : ℕ) (m : List·Memᴰ p (level s n)) 
 
   -- ---- cards
 
-  pub link-links : (q : ℕ) → links after q ≡ links s q ++ gains q (slicesOf s n p)
+  pub link-links : (q : ℕ) → links after q ≡ links s q ++ gains (table s p) q (slicesOf s n p)
   unfolding doLink frozenFirst
-  link-links q = hang-links (slicesOf s n p) frozenFirst on-live q ∙ ap (λ (ls : List Link). ls ++ gains q (slicesOf s n p)) (first-links q)
+  link-links q = hang-links (table s p) (slicesOf s n p) frozenFirst on-live q ∙ ap (λ (ls : List Link). ls ++ gains (table s p) q (slicesOf s n p)) (first-links q)
 
   pub link-chosen : card after p ≡ frozen
   unfolding doLink frozenFirst
-  link-chosen = frozen-card (card after p) (hang-kind isFrozen (λ _ _. refl) (slicesOf s n p) frozenFirst on-live p ∙ ap isFrozen first-same)
+  link-chosen = frozen-card (card after p) (hang-kind isFrozen (λ _ _. refl) (table s p) (slicesOf s n p) frozenFirst on-live p ∙ ap isFrozen first-same)
 
   pub link-kind : (test : Card → Bool) → ((xs ys : List Link) → test (Card.live xs) ≡ test (Card.live ys)) → (q : ℕ) → (q ≡ p → ⊥) → test (card after q) ≡ test (card s q)
   unfolding doLink frozenFirst
-  link-kind test same q d = hang-kind test same (slicesOf s n p) frozenFirst on-live q ∙ ap test (first-other q d)
+  link-kind test same q d = hang-kind test same (table s p) (slicesOf s n p) frozenFirst on-live q ∙ ap test (first-other q d)
 
   -- a table that is not on the level below gains nothing
   pub link-others : (q : ℕ) → (List·Memᴰ q (level s (suc n)) → ⊥) → links after q ≡ links s q
   link-others q d =
       link-links q
-      ∙ ap (λ (ls : List Link). links s q ++ ls) (gains-none q (slicesOf s n p) (λ r h e. d (Memᴰ·cast (sym e) (slice-member s n p r h .1))))
+      ∙ ap (λ (ls : List Link). links s q ++ ls) (gains-none (table s p) q (slicesOf s n p) (λ r h e. d (Memᴰ·cast (sym e) (slice-member s n p r h .1))))
       ∙ append-nil (links s q)
 
   -- ---- the rest
 
   pub link-size : size after ≡ size s
   unfolding doLink frozenFirst leaves
-  link-size = hang-beside (slicesOf s n p) frozenFirst .same-size ∙ size-withCard (leaves n p s) p frozen ∙ (unfold size in refl)
+  link-size = hang-beside (table s p) (slicesOf s n p) frozenFirst .same-size ∙ size-withCard (leaves n p s) p frozen ∙ (unfold size in refl)
 
   pub link-marks : length (after .marks) ≡ length (s .marks)
   unfolding doLink frozenFirst leaves
-  link-marks = ap length (hang-beside (slicesOf s n p) frozenFirst .same-marks) ∙ length-marksAfter n p s
+  link-marks = ap length (hang-beside (table s p) (slicesOf s n p) frozenFirst .same-marks) ∙ length-marksAfter n p s
 
   pub link-threshold : after .threshold ≡ s .threshold
   unfolding doLink frozenFirst leaves
-  link-threshold = hang-beside (slicesOf s n p) frozenFirst .same-threshold
+  link-threshold = hang-beside (table s p) (slicesOf s n p) frozenFirst .same-threshold
 
   pub link-cursor : after .cursor ≡ s .cursor
   unfolding doLink frozenFirst leaves
-  link-cursor = hang-beside (slicesOf s n p) frozenFirst .same-cursor
+  link-cursor = hang-beside (table s p) (slicesOf s n p) frozenFirst .same-cursor
 
   pub link-memory : after .memory ≡ s .memory
   unfolding doLink frozenFirst leaves
-  link-memory = hang-beside (slicesOf s n p) frozenFirst .same-memory
+  link-memory = hang-beside (table s p) (slicesOf s n p) frozenFirst .same-memory
 
   pub link-places : after .places ≡ s .places
   unfolding doLink frozenFirst leaves
-  link-places = hang-beside (slicesOf s n p) frozenFirst .same-places
+  link-places = hang-beside (table s p) (slicesOf s n p) frozenFirst .same-places
 
   pub link-bytes : (q : ℕ) → bytesAt after q ≡ bytesAt s q
   unfolding bytesAt
@@ -124,7 +125,7 @@ module _ (s : Store) (S : Sound s) (n p : ℕ) (m : List·Memᴰ p (level s n)) 
 
   pub link-levels : after .levels ≡ set (s .levels) n (replaced p [] (level s n))
   unfolding doLink frozenFirst leaves
-  link-levels = hang-beside (slicesOf s n p) frozenFirst .same-levels
+  link-levels = hang-beside (table s p) (slicesOf s n p) frozenFirst .same-levels
 
   pub link-from : n < length (s .levels) → level after n ≡ replaced p [] (level s n)
   unfolding level
@@ -135,7 +136,7 @@ module _ (s : Store) (S : Sound s) (n p : ℕ) (m : List·Memᴰ p (level s n)) 
   link-other i d = rw link-levels (getD-set-other (s .levels) n i (replaced p [] (level s n)) [] d)
 
   -- what each table below gains
-  pub link-assigned : Assigned s (λ q. gains q (slicesOf s n p)) (table s p) p 0 (level s (suc n))
+  pub link-assigned : Assigned s (λ q. gains (table s p) q (slicesOf s n p)) (table s p) p 0 (level s (suc n))
   unfolding slicesOf
   link-assigned =
       assigned s (table s p) p 0 (level s (suc n))

@@ -16,7 +16,7 @@ use Rattle.ldc.specs.Store.{Link, Store, links, table, within, leastEnd,
 use Rattle.ldc.specs.Tidy.{greatest}
 use Rattle.ldc.proofs.Basics.Cases.{cases, clash, both, both-left, both-right, not-both}
 use Rattle.ldc.proofs.Entries.Keys.{head-below}
-use Rattle.ldc.proofs.Steps.Ranges.{gained, Assigned}
+use Rattle.ldc.proofs.Steps.Ranges.{newLink, gained, Assigned}
 use Rattle.ldc.specs.Facts.{Spans}
 
 -- A range that holds an entry is not upside down.
@@ -45,7 +45,7 @@ module _ (s s′ : Store) (es : List Entry) (p : ℕ) where
       cases (isEmpty (within from to es))
       (λ y. let e′ : links s′ q ≡ links s q = rw y at e ∙ append-nil (links s q) in
       rw (e′, t) (f, o, omega arith))
-      (λ y. let l : Link = record { place = p; low = from; high = to } in
+      (λ y. let l : Link = newLink es p from to in
       let e′ : links s′ q ≡ links s q ++ (l ∷ []) = rw y at e in
       let b : from ≤ to = range-order from to es y in
       rw (e′, t, leastEnd-append (leastKey (table s q)) (links s q) l, greatestEnd-append (greatestKey (table s q)) (links s q) l)
@@ -94,13 +94,13 @@ module _ (s s′ : Store) (es : List Entry) (p : ℕ) where
   pub any-gains : (from q : ℕ) (qs : List ℕ) (gain : ℕ → List Link) → Assigned s gain es p from (q ∷ qs) → isEmpty (within from greatest es) ≡ false
       → (x : ℕ) × ((l : Link) × List·Memᴰ l (gain x))
   any-gains from q [] gain a h =
-      let l : Link = record { place = p; low = from; high = greatest } in
+      let l : Link = newLink es p from greatest in
       let z : gain q ≡ l ∷ [] = a ∙ rw h in
       (q, (l, rw z (List·Memᴰ·head refl)))
   any-gains from q (x ∷ qs) gain a h =
       cases (isEmpty (within from (spanEnd s q) es))
       (λ e. any-gains (suc (spanEnd s q)) x qs gain (a .1) (rest-holds from (spanEnd s q) es h e))
-      (λ e. let l : Link = record { place = p; low = from; high = spanEnd s q } in
+      (λ e. let l : Link = newLink es p from (spanEnd s q) in
       let z : gain q ≡ l ∷ [] = a .0 ∙ rw e in
       (q, (l, rw z (List·Memᴰ·head refl))))
 

@@ -59,7 +59,7 @@ module _ (s : Store) (S : Sound s) (n p : ℕ) (below : n ≤ 2) (m : List·Mem�
       same : after .places ≡ s .places
       same = link-places s S n p m bare
 
-      assigned : Assigned s (λ q. gains q (slicesOf s n p)) es p 0 (level s (suc n))
+      assigned : Assigned s (λ q. gains (table s p) q (slicesOf s n p)) es p 0 (level s (suc n))
       assigned = link-assigned s S n p m bare
 
       keys : Keys 0 (2 ^ 64) es
@@ -68,11 +68,11 @@ module _ (s : Store) (S : Sound s) (n p : ℕ) (below : n ≤ 2) (m : List·Mem�
       all-from : find k (within 0 greatest es) ≡ find k es
       all-from = let r = find-from s after same p keys k 0 in rw (le-leb 0 k (omega arith)) at r
 
-      lower : (qs : List ℕ) → isEmpty qs ≡ false → ((q : ℕ) → List·Memᴰ q qs → List·Memᴰ q (level s (suc n))) → Spans s 0 qs → Assigned s (λ q. gains q (slicesOf s n p)) es p 0 qs
+      lower : (qs : List ℕ) → isEmpty qs ≡ false → ((q : ℕ) → List·Memᴰ q qs → List·Memᴰ q (level s (suc n))) → Spans s 0 qs → Assigned s (λ q. gains (table s p) q (slicesOf s n p)) es p 0 qs
           → find k (reads after qs) ≡ orElse (find k es) (find k (reads s qs))
       lower [] e on sp a = clash refl e
       lower (q ∷ qs) e on sp a =
-          link-reads s after same p keys k 0 q qs (λ q. gains q (slicesOf s n p)) (λ x h. listed-readable s S (suc n) x (on x h)) (λ x _. link-links s S n p m bare x) sp a
+          link-reads s after same p keys k 0 q qs (λ q. gains (table s p) q (slicesOf s n p)) (λ x h. listed-readable s S (suc n) x (on x h)) (λ x _. link-links s S n p m bare x) sp a
           ∙ ap (λ o. orElse o (find k (reads s (q ∷ qs)))) all-from
 
   link-given : (k i : ℕ) → (i ≡ n → ⊥) → (i ≡ suc n → ⊥) → given after i k ≡ given s i k

@@ -8,6 +8,7 @@ use mathlib.Core.Logic.{⊎-elim}
 use native.Mathlib.Omega.{arith}
 use borrow.Author.Tests.{eqb-false, eq-eqb, ne-eqb}
 use lib.Dec.{eqb}
+use lib.ListN.{length}
 use Rattle.table.specs.Entry.{Entry}
 use Rattle.ldc.specs.Lists.{howMany, isEmpty}
 use Rattle.ldc.specs.Store.{Link, Store, within, spanEnd}
@@ -15,9 +16,13 @@ use Rattle.ldc.specs.Tidy.{Slice, Reach, greatest, responsible, holding}
 use Rattle.ldc.proofs.Basics.Cases.{cases}
 use Rattle.ldc.proofs.Stores.Hang.{gains}
 
+-- The link to a range of a table with these entries.
+abbrev pub newLink : List Entry → (frozen from to : ℕ) → Link
+newLink es p from to = record { place = p; low = from; high = to; number = length (within from to es) }
+
 -- The link that a range gives, if it holds an entry.
 abbrev pub gained : List Entry → (frozen from to : ℕ) → List Link
-gained es p from to = cond (isEmpty (within from to es)) [] (record { place = p; low = from; high = to } ∷ [])
+gained es p from to = cond (isEmpty (within from to es)) [] (newLink es p from to ∷ [])
 
 -- What each of these tables gains, from a key on.
 abbrev pub Assigned : Store → (ℕ → List Link) → List Entry → (frozen from : ℕ) → List ℕ → Type 0
@@ -45,7 +50,7 @@ reaches s qs = map (λ q. record { place = q; end = spanEnd s q }) qs
 
 module _ (s : Store) (es : List Entry) (p : ℕ) where
   -- a table that is not among them gains nothing
-  gains-absent : (q from : ℕ) (qs : List ℕ) → howMany (eqb q) qs ≡ 0 → gains q (holding es (responsible p from (reaches s qs))) ≡ []
+  gains-absent : (q from : ℕ) (qs : List ℕ) → howMany (eqb q) qs ≡ 0 → gains es q (holding es (responsible p from (reaches s qs))) ≡ []
   gains-absent q from [] h = refl
   gains-absent q from (x ∷ []) h =
       let d : eqb x q ≡ false = cases (eqb q x)
@@ -76,18 +81,18 @@ module _ (s : Store) (es : List Entry) (p : ℕ) where
       (λ e. let z : suc (howMany (eqb q) qs) ≡ 0 = rw e at h in absurd (omega arith))
       (λ e. ⊎-elim (λ xy. rw xy e) (λ t. absent q qs (rw e at h) x t) (List·Memᴰ·cases-cons m))
 
-  pub assigned : (from : ℕ) (qs : List ℕ) → Distinct qs → Assigned s (λ q. gains q (holding es (responsible p from (reaches s qs)))) es p from qs
+  pub assigned : (from : ℕ) (qs : List ℕ) → Distinct qs → Assigned s (λ q. gains es q (holding es (responsible p from (reaches s qs)))) es p from qs
   assigned from [] d = tt
   assigned from (q ∷ []) d = cases (isEmpty (within from greatest es)) (λ e. rw e) (λ e. rw (e, eq-eqb q q refl))
   assigned from (q ∷ x ∷ qs) d =
       let rest : List Slice = holding es (responsible p (suc (spanEnd s q)) (reaches s (x ∷ qs))) in
-      let none-q : gains q rest ≡ [] = gains-absent q (suc (spanEnd s q)) (x ∷ qs) (d .0) in (
+      let none-q : gains es q rest ≡ [] = gains-absent q (suc (spanEnd s q)) (x ∷ qs) (d .0) in (
         cases (isEmpty (within from (spanEnd s q) es))
             (λ e. rw e none-q)
-            (λ e. rw (e, eq-eqb q q refl) (ap (λ (ls : List Link). record { place = p; low = from; high = spanEnd s q } ∷ ls) none-q)),
+            (λ e. rw (e, eq-eqb q q refl) (ap (λ (ls : List Link). newLink es p from (spanEnd s q) ∷ ls) none-q)),
         assigned-cong
-            (λ y. gains y (holding es (responsible p from (reaches s (q ∷ x ∷ qs)))))
-            (λ y. gains y rest)
+            (λ y. gains es y (holding es (responsible p from (reaches s (q ∷ x ∷ qs)))))
+            (λ y. gains es y rest)
             (suc (spanEnd s q)) (x ∷ qs)
             (λ y m. cases (isEmpty (within from (spanEnd s q) es)) (λ e. rw e) (λ e. rw (e, absent q (x ∷ qs) (d .0) y m)))
             (assigned (suc (spanEnd s q)) (x ∷ qs) (d .1)),

@@ -13,8 +13,8 @@ use lib.ListN.{length, getD, take, drop, take-append-drop, length-append, length
 use Rattle.ldc.specs.Lists.{first, keep, isEmpty}
 use Rattle.ldc.specs.Store.{Store, level, links, table, mark, within}
 use Rattle.ldc.specs.Place.{freePlaces}
-use Rattle.ldc.specs.Tidy.{Slice, idle, refused, moved, linked, merged, mergedTables, mergeStep, Spot, due, dueIn, dueTable, capacity, fuller, fullest, overfull, passed, round, responsible, slicesOf, downStep, tidyStep}
-use Rattle.ldc.proofs.Basics.Cases.{cases, clash, maybe, both-left, both-right}
+use Rattle.ldc.specs.Tidy.{Slice, idle, refused, moved, linked, merged, mergedTables, mergeStep, Spot, dueWith, due, dueIn, dueTable, capacity, fuller, fullest, overfull, passed, round, responsible, slicesOf, downStep, tidyStep}
+use Rattle.ldc.proofs.Basics.Cases.{cases, clash, maybe, both-left, both-right, neither-left}
 use Rattle.ldc.proofs.Basics.ListLaws.{empty-list, all-at, mem-getD}
 use Rattle.ldc.proofs.Steps.Ranges.{reaches}
 use Rattle.ldc.proofs.Stores.Sound.{Sound}
@@ -161,8 +161,8 @@ module _ (s : Store) (S : Sound s) where
       }
 
   none-due : dueTable s ≡ none → (n : ℕ) → n ≤ 2 → (q : ℕ) → List·Memᴰ q (level s (suc n)) → length (links s q) < s .threshold
-  unfolding dueTable due
-  none-due e n h q m = leb-false (s .threshold) (length (links s q)) (due-none s (1 ∷ 2 ∷ 3 ∷ []) e (suc n) (within-three n h) q m)
+  unfolding dueTable due dueWith
+  none-due e n h q m = leb-false (s .threshold) (length (links s q)) (neither-left (leb (s .threshold) (length (links s q))) _ (due-none s (1 ∷ 2 ∷ 3 ∷ []) e (suc n) (within-three n h) q m))
     where
       within-three : (i : ℕ) → i ≤ 2 → List·Memᴰ (suc i) (1 ∷ 2 ∷ 3 ∷ [])
       within-three zero l = List·Memᴰ·head refl

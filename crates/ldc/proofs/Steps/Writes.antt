@@ -110,7 +110,7 @@ module _ (s : Store) where
 
   places-linked : (n p : ℕ) (rs : List Slice) → doLink n p rs s .places ≡ s .places
   unfolding doLink leaves
-  places-linked n p rs = hang-beside rs _ .same-places
+  places-linked n p rs = hang-beside _ rs _ .same-places
 
   places-merged : (n p : ℕ) → doMerge n p s .places ≡ writtenAll (mergedTables s n p) s .places
   unfolding doMerge

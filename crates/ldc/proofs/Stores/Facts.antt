@@ -2,7 +2,7 @@
 use Prim.Native.Nat.{ℕ, zero, suc, _+_, _≤_, _<_}
 use mathlib.Core.Path.{_≡_, refl, sym, _∙_, ap}
 use mathlib.Core.List.{List, [], _∷_, List·Memᴰ}
-use mathlib.Core.Bool.{true, false, not, _&&_}
+use mathlib.Core.Bool.{true, false, not}
 use native.Mathlib.Omega.{arith}
 use borrow.Author.Tests.{leb-true, ltb-true, lt-ltb}
 use lib.Dec.{leb, ltb, eqb}
@@ -11,7 +11,7 @@ use Rattle.table.specs.Valid.{Valid}
 use Rattle.ldc.specs.Lists.{howMany, isEmpty}
 use Rattle.ldc.specs.Store.{Link, Store, size, card, links, isFree, isLive, isFrozen, bytesAt, table, level, slice}
 use Rattle.ldc.specs.Rules.{ruleA, thresholdGood, timesListed, linkGood}
-use Rattle.ldc.proofs.Basics.Cases.{cases, both, both-left, both-right}
+use Rattle.ldc.proofs.Basics.Cases.{cases, both, both-left, both-right, negated}
 use Rattle.ldc.proofs.Stores.CardFacts.{live-not-free}
 use Rattle.ldc.proofs.Basics.Counts.{one, total, howMany-flat, member-counted}
 use Rattle.ldc.proofs.Stores.Sound.{Sound}
@@ -105,10 +105,16 @@ module _ (s : Store) (S : Sound s) where
   module _ (p : ℕ) (l : Link) (m : List·Memᴰ l (links s p)) where
     pub link-order : l .low ≤ l .high
     unfolding linkGood
-    link-order = leb-true (l .low) (l .high) (both-left (leb (l .low) (l .high)) (isFrozen (card s (l .place)) && not (isEmpty (slice s l))) (S .hung p l m))
+    link-order = leb-true (l .low) (l .high) (both-left (leb (l .low) (l .high)) _ (S .hung p l m))
 
     pub link-frozen : isFrozen (card s (l .place)) ≡ true
     unfolding linkGood
-    link-frozen =
-        both-left (isFrozen (card s (l .place))) (not (isEmpty (slice s l)))
-        (both-right (leb (l .low) (l .high)) (isFrozen (card s (l .place)) && not (isEmpty (slice s l))) (S .hung p l m))
+    link-frozen = both-left (isFrozen (card s (l .place))) _ (both-right (leb (l .low) (l .high)) _ (S .hung p l m))
+
+    -- its range holds an entry
+    pub link-holds : isEmpty (slice s l) ≡ false
+    unfolding linkGood
+    link-holds =
+        negated (isEmpty (slice s l))
+        (both-left (not (isEmpty (slice s l))) _
+        (both-right (isFrozen (card s (l .place))) _ (both-right (leb (l .low) (l .high)) _ (S .hung p l m))))

@@ -6,20 +6,18 @@ use mathlib.Core.List.{List, [], _∷_, _++_, map, append-assoc, append-nil, Lis
 use mathlib.Core.Bool.{Bool, true}
 use borrow.Author.Tests.{eqb-true, eqb-false}
 use lib.Dec.{eqb}
+use Rattle.table.specs.Entry.{Entry}
 use Rattle.ldc.specs.Lists.{keep}
 use Rattle.ldc.specs.Store.{Link, Card, live, Store, size, card, links, linksOf, isLive, withCard}
 use Rattle.ldc.specs.Tidy.{Slice}
-use Rattle.ldc.specs.Steps.{hang}
+use Rattle.ldc.specs.Steps.{linkTo, hang}
 use Rattle.ldc.proofs.Basics.Cases.{cases}
 use Rattle.ldc.proofs.Stores.CardFacts.{live-not-free, live-links}
 use Rattle.ldc.proofs.Stores.Changes.{card-same, card-other, below-size, size-withCard}
 
-abbrev pub linkOf : Slice → Link
-linkOf r = record { place = r .place; low = r .low; high = r .high }
-
--- The links among these that are hung on a table.
-abbrev pub gains : ℕ → List Slice → List Link
-gains q rs = map linkOf (keep (λ r. eqb (r .on) q) rs)
+-- The links to slices of a table with these entries, of those that are hung on the table q.
+abbrev pub gains : (chosen : List Entry) → (q : ℕ) → List Slice → List Link
+gains es q rs = map (linkTo es) (keep (λ r. eqb (r .on) q) rs)
 
 -- The tables that links are hung on are live.
 abbrev pub OnLive : Store → List Slice → Type 0
@@ -27,52 +25,52 @@ OnLive s rs = (r : Slice) → List·Memᴰ r rs → isLive (card s (r .on)) ≡ 
 
 -- ---- one link
 
-module _ (r : Slice) (s : Store) (h : isLive (card s (r .on)) ≡ true) where
+module _ (es : List Entry) (r : Slice) (s : Store) (h : isLive (card s (r .on)) ≡ true) where
   hung : Store
-  hung = withCard (r .on) (live (links s (r .on) ++ (linkOf r ∷ []))) s
+  hung = withCard (r .on) (live (links s (r .on) ++ (linkTo es r ∷ []))) s
 
-  hung-card : card hung (r .on) ≡ live (links s (r .on) ++ (linkOf r ∷ []))
+  hung-card : card hung (r .on) ≡ live (links s (r .on) ++ (linkTo es r ∷ []))
   unfolding hung
-  hung-card = card-same s (r .on) (live (links s (r .on) ++ (linkOf r ∷ []))) (below-size s (r .on) (live-not-free (card s (r .on)) h))
+  hung-card = card-same s (r .on) (live (links s (r .on) ++ (linkTo es r ∷ []))) (below-size s (r .on) (live-not-free (card s (r .on)) h))
 
   hung-other : (q : ℕ) → (q ≡ r .on → ⊥) → card hung q ≡ card s q
   unfolding hung
-  hung-other q d = card-other s (r .on) (live (links s (r .on) ++ (linkOf r ∷ []))) q d
+  hung-other q d = card-other s (r .on) (live (links s (r .on) ++ (linkTo es r ∷ []))) q d
 
   -- a test that asks only whether a card is free, live or frozen
   hung-kind : (test : Card → Bool) → ((xs ys : List Link) → test (live xs) ≡ test (live ys)) → (q : ℕ) → test (card hung q) ≡ test (card s q)
   hung-kind test same q =
       cases (eqb q (r .on))
       (λ e. let qe : q ≡ r .on = eqb-true q (r .on) e in
-      rw (qe, hung-card) (same (links s (r .on) ++ (linkOf r ∷ [])) (linksOf (card s (r .on))) ∙ ap test (sym (live-links (card s (r .on)) h))))
+      rw (qe, hung-card) (same (links s (r .on) ++ (linkTo es r ∷ [])) (linksOf (card s (r .on))) ∙ ap test (sym (live-links (card s (r .on)) h))))
       (λ e. ap test (hung-other q (eqb-false q (r .on) e)))
 
-  hung-links : (q : ℕ) (rs : List Slice) → links hung q ++ gains q rs ≡ links s q ++ gains q (r ∷ rs)
+  hung-links : (q : ℕ) (rs : List Slice) → links hung q ++ gains es q rs ≡ links s q ++ gains es q (r ∷ rs)
   unfolding links
   hung-links q rs =
       cases (eqb (r .on) q)
       (λ e. let qe : r .on ≡ q = eqb-true (r .on) q e in
-      rw (e, ← qe, hung-card) (append-assoc (links s (r .on)) (linkOf r ∷ []) (gains (r .on) rs)))
+      rw (e, ← qe, hung-card) (append-assoc (links s (r .on)) (linkTo es r ∷ []) (gains es (r .on) rs)))
       (λ e. rw (e, hung-other q (λ d. eqb-false (r .on) q e (sym d))))
 
 -- ---- all of them
 
 pub hang-kind : (test : Card → Bool) → ((xs ys : List Link) → test (live xs) ≡ test (live ys))
-    → (rs : List Slice) (s : Store) → OnLive s rs → (q : ℕ) → test (card (hang rs s) q) ≡ test (card s q)
+    → (es : List Entry) (rs : List Slice) (s : Store) → OnLive s rs → (q : ℕ) → test (card (hang es rs s) q) ≡ test (card s q)
 unfolding hung
-hang-kind test same [] s o q = refl
-hang-kind test same (r ∷ rs) s o q =
+hang-kind test same es [] s o q = refl
+hang-kind test same es (r ∷ rs) s o q =
     let h = o r (List·Memᴰ·head refl) in
-    hang-kind test same rs (hung r s h) (λ x m. hung-kind r s h isLive (λ _ _. refl) (x .on) ∙ o x (List·Memᴰ·tail m)) q
-    ∙ hung-kind r s h test same q
+    hang-kind test same es rs (hung es r s h) (λ x m. hung-kind es r s h isLive (λ _ _. refl) (x .on) ∙ o x (List·Memᴰ·tail m)) q
+    ∙ hung-kind es r s h test same q
 
-pub hang-links : (rs : List Slice) (s : Store) → OnLive s rs → (q : ℕ) → links (hang rs s) q ≡ links s q ++ gains q rs
+pub hang-links : (es : List Entry) (rs : List Slice) (s : Store) → OnLive s rs → (q : ℕ) → links (hang es rs s) q ≡ links s q ++ gains es q rs
 unfolding hung
-hang-links [] s o q = sym (append-nil (links s q))
-hang-links (r ∷ rs) s o q =
+hang-links es [] s o q = sym (append-nil (links s q))
+hang-links es (r ∷ rs) s o q =
     let h = o r (List·Memᴰ·head refl) in
-    hang-links rs (hung r s h) (λ x m. hung-kind r s h isLive (λ _ _. refl) (x .on) ∙ o x (List·Memᴰ·tail m)) q
-    ∙ hung-links r s h q rs
+    hang-links es rs (hung es r s h) (λ x m. hung-kind es r s h isLive (λ _ _. refl) (x .on) ∙ o x (List·Memᴰ·tail m)) q
+    ∙ hung-links es r s h q rs
 
 -- What is not a card is untouched.
 pub record Beside (s s′ : Store) : Type 0 where
@@ -106,8 +104,8 @@ beside-card s s′ p c b = record {
   same-memory = b .same-memory;
 }
 
-pub hang-beside : (rs : List Slice) (s : Store) → Beside s (hang rs s)
-hang-beside [] s = beside-itself s
-hang-beside (r ∷ rs) s =
-    let c : Card = live (links s (r .on) ++ (linkOf r ∷ [])) in
-    beside-card s (hang rs (withCard (r .on) c s)) (r .on) c (hang-beside rs (withCard (r .on) c s))
+pub hang-beside : (es : List Entry) (rs : List Slice) (s : Store) → Beside s (hang es rs s)
+hang-beside es [] s = beside-itself s
+hang-beside es (r ∷ rs) s =
+    let c : Card = live (links s (r .on) ++ (linkTo es r ∷ [])) in
+    beside-card s (hang es rs (withCard (r .on) c s)) (r .on) c (hang-beside es rs (withCard (r .on) c s))

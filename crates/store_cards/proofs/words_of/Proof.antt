@@ -42,7 +42,7 @@ returns c =
     let card = start .args .card in
     ap
     (λ (ls : List Link). card .state ∷ card .count ∷ linkWords (map theLink ls))
-    (elements-all (record { place = 0; low = record { value = 0 }; high = record { value = 0 } }) (card .links) linkLimit (sym (length-map (card .links) _) ∙ start .good .0 .1 .1 .1 .1 .0 .1 .0 .1))
+    (elements-all (record { place = 0; low = record { value = 0 }; high = record { value = 0 }; number = 0 }) (card .links) linkLimit (sym (length-map (card .links) _) ∙ start .good .0 .1 .1 .1 .1 .0 .1 .0 .1))
 
 pub words-of-spec : {M : Type 1} → statement M
 words-of-spec =

@@ -1,4 +1,4 @@
--- `add_link` meets its contract: three words behind the last link, and the count.
+-- `add_link` meets its contract: four words behind the last link, and the count.
 use mathlib.Core.Path.{ap}
 use mathlib.Core.List.{[]}
 use lib.ListN.{getD, set}
@@ -59,8 +59,20 @@ add-row-3 : tie.Need-add-row-3
 unfolding linkCount
 add-row-3 c = omega arith
 
+mul-row-5 : tie.Need-mul-row-5
+unfolding linkCount
+mul-row-5 c = omega arith
+
 array-write-row-4 : tie.Need-array-write-row-4
-array-write-row-4 c = search needs
+unfolding linkCount
+array-write-row-4 c = omega arith
+
+add-row-4 : tie.Need-add-row-4
+unfolding linkCount
+add-row-4 c = omega arith
+
+array-write-row-5 : tie.Need-array-write-row-5
+array-write-row-5 c = search needs
 
 mul-t15 : tie.Need-mul-t15
 mul-t15 c = search needs
@@ -94,7 +106,10 @@ add-link-spec =
     mul-row-4
     array-write-row-3
     add-row-3
+    mul-row-5
     array-write-row-4
+    add-row-4
+    array-write-row-5
     mul-t15
     slice-set-from-cards
     same-length

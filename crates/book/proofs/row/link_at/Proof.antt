@@ -32,11 +32,20 @@ mul-t16 c = search needs
 element-copy-out-t19 : tie.Need-element-copy-out-t19
 element-copy-out-t19 c = search needs
 
+add-t21 : tie.Need-add-t21
+add-t21 c = search needs
+
+mul-t22 : tie.Need-mul-t22
+mul-t22 c = search needs
+
+element-copy-out-t25 : tie.Need-element-copy-out-t25
+element-copy-out-t25 c = search needs
+
 returns : tie.Need-returns
 unfolding linkAt
 returns c =
-    let a = c .before .before .before .before .args in
-    let e : _ ≡ linkStart (a .i) = c .before .before .before .link-start .ensures in
+    let a = c .before .before .before .before .before .args in
+    let e : _ ≡ linkStart (a .i) = c .before .before .before .before .link-start .ensures in
     ap (linkFrom (a .row .now)) e
 
 pub link-at-spec : {M : Type 1} → statement M
@@ -52,4 +61,7 @@ link-at-spec =
     add-t15
     mul-t16
     element-copy-out-t19
+    add-t21
+    mul-t22
+    element-copy-out-t25
     returns)

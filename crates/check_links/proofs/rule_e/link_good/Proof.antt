@@ -50,8 +50,8 @@ bytes-of-requires c κs =
 cold : (c : tie.Else3) → let a = c .before .before .before .before .before .before .before .before .before .args in isFrozen (cardOf (getD (a .cards .now) (a .l .place) [])) ≡ true
 cold c = sym (c .before .is-frozen .ensures) ∙ not-false _ (c .if3 .left)
 
-holds-requires : tie.Need-holds-requires
-holds-requires c κs =
+numbered-requires : tie.Need-numbered-requires
+numbered-requires c κs =
     let b = c .before .before .before .before .before .before .before .before .before .before in (
       c .bytes-of .ensures .1,
       rw (c .bytes-of .ensures .0) (frozen-table (b .args .area .now) (b .args .cards .now) (b .pre .1) (b .args .l .place) (omega arith) (cold (c .before))),
@@ -62,8 +62,8 @@ returns-4 c =
     let b = c .before .before .before .before .before .before .before .before .before .before .before in
     let a = b .args in
     let order = ltb-false _ _ (sym (c .before .before .before .before .before .before .before .below .ensures) ∙ c .before .before .before .before .before .before .if1 .left) in
-    sym (sliced (a .area .now) (a .cards .now) (theLink (a .l)) (b .pre .0) order (c .before .before .before .before .before .if2 .left) (cold (c .before .before))
-    ∙ rw (← c .before .bytes-of .ensures .0) (sym (c .holds .ensures)))
+    c .numbered .ensures
+    ∙ rw (c .before .bytes-of .ensures .0) (sym (sliced (a .area .now) (a .cards .now) (theLink (a .l)) (b .pre .0) order (c .before .before .before .before .before .if2 .left) (cold (c .before .before))))
 
 pub link-good-spec : {M : Type 1} → statement M
 link-good-spec =
@@ -77,5 +77,5 @@ link-good-spec =
     is-frozen-requires
     returns-3
     bytes-of-requires
-    holds-requires
+    numbered-requires
     returns-4)

@@ -17,8 +17,8 @@ use Rattle.compact_link.proofs.link.hang_all.Tie as tie
 abbrev Inv-loop : tie.InvT-loop
 Inv-loop area cards₀ items p first₀ from₀ cards first from =
     (length cards ≡ length cards₀) × (first ≤ length items) × Hosts area cards (from .value) (drop first items)
-    × (hungRows (slicesFrom (shownBy area cards₀) (entries (placeOf area p)) p 0 items) cards₀
-    ≡ hungRows (slicesFrom (shownBy area cards) (entries (placeOf area p)) p (from .value) (drop first items)) cards)
+    × (hungRows (entries (placeOf area p)) (slicesFrom (shownBy area cards₀) (entries (placeOf area p)) p 0 items) cards₀
+    ≡ hungRows (entries (placeOf area p)) (slicesFrom (shownBy area cards) (entries (placeOf area p)) p (from .value) (drop first items)) cards)
 
 abbrev μ-loop : tie.MeasureT-loop
 μ-loop area cards₀ items p first₀ from₀ cards first from = length items - first
@@ -63,7 +63,7 @@ hang-at-requires c κs =
     let l = c .before .before .before .before .before .before .before .loop in
     let items = c .before .before .before .before .before .before .before .before .before .before .args .items .now in
     rw (rest-items items (l .first))
-    (l .inv .2, rest-some items (l .first) (c .before .before .before .before .before .before .loop-test .taken))
+    (l .inv .2, (rest-some items (l .first) (c .before .before .before .before .before .before .loop-test .taken), c .before .before .before .before .before .before .before .before .before .before .pre .1))
 
 -- What the turn has done.
 done : (c : tie.After-struct-known Inv-loop μ-loop)

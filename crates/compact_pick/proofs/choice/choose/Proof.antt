@@ -11,15 +11,14 @@ use Rattle.ldc.specs.Store.{Store, mark}
 use Rattle.ldc.specs.Tidy.{passed}
 use Rattle.book.specs.Head.{theMark}
 use Rattle.book.specs.Place.{theIndex}
-use Rattle.compact_pick.specs.Due.{passesBy}
+use Rattle.compact_pick.specs.Due.{passesBy, Reads}
 use Rattle.compact_pick.specs.declared.due.Wanted.the-variants.{Bare}
-use Rattle.compact_pick.specs.Plan.{Reads}
 use Rattle.compact_pick.proofs.Choices.{items-drop, items-take, part-rest, down-front, down-back, all-linked}
 use Rattle.compact_pick.proofs.choice.choose.Statement.{statement}
 use Rattle.compact_pick.proofs.choice.choose.Tie as tie
 
 find-start-requires : tie.Need-find-start-requires
-find-start-requires c κs = c .before .before .pre .listed
+find-start-requires c κs = c .before .before .pre .carded .listed
 
 mul-find-table : tie.Need-mul-find-table
 mul-find-table c = omega (arith, c .find-start .ensures .0, c .before .before .before .good)
@@ -37,15 +36,15 @@ find-table-requires : tie.Need-find-table-requires
 find-table-requires c κs =
     let a = c .before .before .before .before .args in
     let k : ℕ = c .before .find-start .result in
-    rw (part-rest (a .items .now) k) (items-drop (a .cards .now) (a .items .now) k (c .before .before .before .before .pre .carded))
+    rw (part-rest (a .items .now) k) (items-drop (a .area .now) (a .cards .now) (a .items .now) k (c .before .before .before .before .pre .carded))
 
 -- What the first part gave.
 front : (c : tie.After-find-table)
     → let a = c .before .before .before .before .before .args in
-    theIndex (c .find-table .result) ≡ first (passesBy (a .cards .now) Bare) (drop (c .before .before .find-start .result) (a .items .now))
+    theIndex (c .find-table .result) ≡ first (passesBy (a .area .now) (a .cards .now) Bare) (drop (c .before .before .find-start .result) (a .items .now))
 front c =
     let a = c .before .before .before .before .before .args in
-    c .find-table .ensures ∙ ap (first (passesBy (a .cards .now) Bare)) (part-rest (a .items .now) (c .before .before .find-start .result))
+    c .find-table .ensures ∙ ap (first (passesBy (a .area .now) (a .cards .now) Bare)) (part-rest (a .items .now) (c .before .before .find-start .result))
 
 -- The round begins where the mark says.
 begun : (c : tie.After-find-table)
@@ -63,7 +62,7 @@ returns c s o =
     let f = c .before .before .before in
     let t = f .before .before in
     let a = t .before .before .before .args in
-    down-front s (a .cards .now) (a .items .now) (a .n) (t .find-start .result) (o .linked) (t .before .before .before .pre .carded) (t .find-start .ensures .0) (o .level-items) (begun f s (o .reads) (o .level-mark))
+    down-front s (a .area .now) (a .cards .now) (a .items .now) (a .n) (t .find-start .result) (o .linked) (o .level-items) (begun f s (o .reads) (o .level-mark))
     (c .before .p .given .0 .0) (sym (front f) ∙ ap theIndex (c .before .p .given .1))
 
 enum-told : tie.Need-enum-told
@@ -78,7 +77,7 @@ find-table-requires-2 : tie.Need-find-table-requires-2
 find-table-requires-2 c κs =
     let t = c .before .before .before .before .before in
     let a = t .before .before .before .args in
-    items-take (a .cards .now) (a .items .now) (t .find-start .result) (t .find-start .ensures .0) (t .before .before .before .pre .carded)
+    items-take (a .area .now) (a .cards .now) (a .items .now) (t .find-start .result) (t .find-start .ensures .0) (t .before .before .before .pre .carded)
 
 enum-known-p-2 : tie.Need-enum-known-p-2
 enum-known-p-2 c = search needs
@@ -87,7 +86,7 @@ enum-known-p-2 c = search needs
 missed : (c : tie.After-enum-told)
     → let f = c .before .before in
     let a = f .before .before .before .before .before .args in
-    first (passesBy (a .cards .now) Bare) (drop (f .before .before .find-start .result) (a .items .now)) ≡ none
+    first (passesBy (a .area .now) (a .cards .now) Bare) (drop (f .before .before .find-start .result) (a .items .now)) ≡ none
 missed c = sym (front (c .before .before)) ∙ ap theIndex (c .enum-told .given .1)
 
 returns-2 : tie.Need-returns-2
@@ -97,7 +96,7 @@ returns-2 c s o =
     let f = e .before .before in
     let t = f .before .before in
     let a = t .before .before .before .args in
-    down-back s (a .cards .now) (a .items .now) (a .n) (t .find-start .result) (o .linked) (t .before .before .before .pre .carded) (t .find-start .ensures .0) (o .level-items) (begun f s (o .reads) (o .level-mark))
+    down-back s (a .area .now) (a .cards .now) (a .items .now) (a .n) (t .find-start .result) (o .linked) (o .level-items) (begun f s (o .reads) (o .level-mark))
     (missed e) (c .before .p2 .given .0 .0) (sym (g .find-table2 .ensures) ∙ ap theIndex (c .before .p2 .given .1))
 
 enum-told-2 : tie.Need-enum-told-2
@@ -116,7 +115,7 @@ returns-3 c s o =
     let t = f .before .before in
     let a = t .before .before .before .args in
     rw (c .pick-first .ensures)
-    (all-linked s (a .cards .now) (a .items .now) (a .n) (t .find-start .result) (o .linked) (t .before .before .before .pre .carded) (t .find-start .ensures .0) (o .level-items) (begun f s (o .reads) (o .level-mark))
+    (all-linked s (a .area .now) (a .cards .now) (a .items .now) (a .n) (t .find-start .result) (o .linked) (o .level-items) (begun f s (o .reads) (o .level-mark))
     (missed e) (sym (g .find-table2 .ensures) ∙ ap theIndex (c .before .enum-told2 .given .1)))
 
 pub choose-spec : {M : Type 1} → statement M

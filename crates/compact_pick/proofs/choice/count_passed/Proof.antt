@@ -9,7 +9,7 @@ use lib.ListN.{length, getD, drop}
 use Rattle.table.specs.Search.{leastKey}
 use Rattle.ldc.specs.Store.{Store, table}
 use Rattle.ldc.specs.Tidy as tidy
-use Rattle.compact_pick.specs.Plan.{Reads}
+use Rattle.compact_pick.specs.Due.{Reads}
 use Rattle.compact_pick.proofs.Turns.{passed-here, passed-turn, passed-end}
 use Rattle.compact_pick.proofs.choice.count_passed.Statement.{statement}
 use Rattle.compact_pick.proofs.choice.count_passed.Tie as tie

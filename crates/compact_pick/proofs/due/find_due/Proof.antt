@@ -10,19 +10,21 @@ use Rattle.ldc.specs.Store.{Store}
 use Rattle.ldc.specs.Layout.{levelCount, itemsIn}
 use Rattle.ldc.specs.Tidy.{dueIn, dueTable}
 use Rattle.book.specs.Head.{headWords}
+use Rattle.book.specs.Pieces.{lent}
 use Rattle.book.specs.Place.{theIndex}
-use Rattle.compact_pick.specs.Due.{passesBy, Booked}
-use Rattle.compact_pick.specs.declared.due.Wanted.the-variants.{Links}
+use Rattle.compact_pick.specs.Due.{passesBy, ToldBy}
+use Rattle.compact_pick.specs.declared.due.Wanted.the-variants.{DueBy}
 use Rattle.compact_pick.proofs.Dues.{levels-turn, levels-end, due-here, due-turn}
+use Rattle.compact_pick.proofs.Plans.{items}
 use Rattle.compact_pick.proofs.due.find_due.Statement.{statement}
 use Rattle.compact_pick.proofs.due.find_due.Tie as tie
 
 abbrev Inv-loop : tie.InvT-loop
-Inv-loop cards lists head n₀ n =
-    (1 ≤ n) × (n ≤ levelCount) × ((s : Store) → Booked s cards lists (headWords head) → dueTable s ≡ dueIn s (drop (n - 1) (1 ∷ 2 ∷ 3 ∷ [])))
+Inv-loop area cards lists head n₀ n =
+    (1 ≤ n) × (n ≤ levelCount) × ((s : Store) → ToldBy s (lent area cards lists (headWords head) []) → dueTable s ≡ dueIn s (drop (n - 1) (1 ∷ 2 ∷ 3 ∷ [])))
 
 abbrev μ-loop : tie.MeasureT-loop
-μ-loop cards lists head n₀ n = levelCount - n
+μ-loop area cards lists head n₀ n = levelCount - n
 
 loop-holds : tie.Need-loop-holds Inv-loop μ-loop
 unfolding dueTable
@@ -34,45 +36,49 @@ length-of-requires c κs = omega arith
 items-requires : tie.Need-items-requires Inv-loop μ-loop
 items-requires c κs =
     let n = c .before .before .loop .n in
-    let v = c .before .before .before .before .pre in
+    let v = c .before .before .before .before .before .pre in
     (v .sized, (rw (c .length-of .ensures) (v .lengths n (c .before .loop-test .taken)), omega arith))
 
 -- The items that are lent on are the level's.
 lent-items : (c : tie.After-items Inv-loop μ-loop)
-    → let a = c .before .before .before .before .before .args in
+    → let a = c .before .before .before .before .before .before .args in
     c .items .result .now ≡ itemsIn (length (a .cards .now)) (a .lists .now) (headWords (a .head)) (c .before .before .before .loop .n)
 lent-items c = c .items .ensures ∙ rw (c .before .length-of .ensures)
 
 find-table-requires : tie.Need-find-table-requires Inv-loop μ-loop
-find-table-requires c κs = rw (lent-items c) (c .before .before .before .before .before .pre .items (c .before .before .before .loop .n) (c .before .before .loop-test .taken))
+find-table-requires c κs =
+    let s = c .before .before .before .before .before .before in
+    let a = s .args in
+    rw (lent-items c)
+    (items (a .area .now) (a .cards .now) (a .lists .now) (headWords (a .head)) (s .pre) (c .before .before .before .loop .n) (c .before .before .loop-test .taken))
 
 enum-known-p : tie.Need-enum-known-p Inv-loop μ-loop
 enum-known-p c = search needs
 
 -- One level's part in it.
 turned : (c : tie.After-find-table Inv-loop μ-loop)
-    → let a = c .before .before .before .before .before .before .args in
+    → let a = c .before .before .before .before .before .before .before .args in
     let n = c .before .before .before .before .loop .n in
-    (s : Store) → Booked s (a .cards .now) (a .lists .now) (headWords (a .head)) → dueTable s ≡ dueIn s (n ∷ drop n (1 ∷ 2 ∷ 3 ∷ []))
+    (s : Store) → ToldBy s (lent (a .area .now) (a .cards .now) (a .lists .now) (headWords (a .head)) []) → dueTable s ≡ dueIn s (n ∷ drop n (1 ∷ 2 ∷ 3 ∷ []))
 turned c s b =
     let l = c .before .before .before .before .loop in
     l .inv .2 s b ∙ ap (dueIn s) (levels-turn (l .n) (l .inv .0) (c .before .before .before .loop-test .taken))
 
 -- What the level's list gave.
 given : (c : tie.After-find-table Inv-loop μ-loop)
-    → let a = c .before .before .before .before .before .before .args in
+    → let a = c .before .before .before .before .before .before .before .args in
     let n = c .before .before .before .before .loop .n in
-    theIndex (c .find-table .result) ≡ first (passesBy (a .cards .now) (Links (a .head .threshold))) (itemsIn (length (a .cards .now)) (a .lists .now) (headWords (a .head)) n)
+    theIndex (c .find-table .result) ≡ first (passesBy (a .area .now) (a .cards .now) (DueBy (a .head .threshold))) (itemsIn (length (a .cards .now)) (a .lists .now) (headWords (a .head)) n)
 given c = c .find-table .ensures ∙ rw (lent-items (c .before))
 
 returns : tie.Need-returns Inv-loop μ-loop
 returns c s b =
     let f = c .before .before .before in
-    let a = f .before .before .before .before .before .before .args in
+    let a = f .before .before .before .before .before .before .before .args in
     let n = f .before .before .before .before .loop .n in
     sym (turned f s b
-    ∙ due-here s (a .cards .now) (a .lists .now) (headWords (a .head)) (f .before .before .before .before .before .before .pre) b n (f .before .before .before .loop-test .taken)
-    (a .head .threshold) (c .before .p .given .0 .0) (f .find-table .result) (drop n (1 ∷ 2 ∷ 3 ∷ [])) refl (given f) (c .before .p .given .1))
+    ∙ due-here s (lent (a .area .now) (a .cards .now) (a .lists .now) (headWords (a .head)) []) b n (f .before .before .before .loop-test .taken)
+    (a .head .threshold) (f .find-table .result) (drop n (1 ∷ 2 ∷ 3 ∷ [])) refl (given f) (c .before .p .given .0 .0) (c .before .p .given .1))
 
 enum-told : tie.Need-enum-told Inv-loop μ-loop
 enum-told c = search needs
@@ -86,13 +92,13 @@ loop-less c = omega arith
 loop-again : tie.Need-loop-again Inv-loop μ-loop
 loop-again c =
     let f = c .before .before in
-    let a = f .before .before .before .before .before .before .args in
+    let a = f .before .before .before .before .before .before .before .args in
     let n = f .before .before .before .before .loop .n in
     let e : n + 1 - 1 ≡ n = omega arith in (
       omega arith,
       omega arith,
       λ s b. turned f s b
-          ∙ due-turn s (a .cards .now) (a .lists .now) (headWords (a .head)) (f .before .before .before .before .before .before .pre) b n (f .before .before .before .loop-test .taken)
+          ∙ due-turn s (lent (a .area .now) (a .cards .now) (a .lists .now) (headWords (a .head)) []) b n (f .before .before .before .loop-test .taken)
           (a .head .threshold) (f .find-table .result) (drop n (1 ∷ 2 ∷ 3 ∷ [])) refl (given f) (c .enum-told .given .1)
           ∙ rw e,
     )
