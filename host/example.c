@@ -1,6 +1,7 @@
 /*
  * Document 01's example in C: makes a store of 32 places with threshold 4, puts "A" under key 5, looks it up, and prints the
- * answer bytes in hexadecimal.
+ * answer bytes in hexadecimal. Then breaks two rules of a sound store, and prints number and letter of a check before each is
+ * mended and at the end.
  */
 #include "zilgwern.h"
 
@@ -19,6 +20,33 @@ static const uint8_t requests[] = {
     13, 0, ZILGWERN_PUT, 0, 5, 0, 0, 0, 0, 0, 0, 0, 'A',  /* put "A" under key 5 */
     12, 0, ZILGWERN_LOOK_UP, 0, 5, 0, 0, 0, 0, 0, 0, 0,   /* look up key 5 */
 };
+
+/* Prints the number that a check gives, and with 5 the letter. */
+static void print_check(void)
+{
+    uint64_t letter;
+    uint64_t number = zilgwern_check(area, sizeof area, cards, PLACES, lists, ZILGWERN_LIST_ITEMS(PLACES), &head, memory,
+                                     &letter);
+    if (number == ZILGWERN_NOT_SOUND) {
+        printf("%llu %c\n", (unsigned long long)number, (int)letter);
+    } else {
+        printf("%llu\n", (unsigned long long)number);
+    }
+}
+
+/* The letter is that of the first broken rule, so the second shows once the first is mended. */
+static void break_and_mend(void)
+{
+    const uint8_t kind = memory[2];
+
+    head.threshold = 9; /* rule A */
+    memory[2] = 0;      /* rule D: no table is of kind 0 */
+    print_check();
+    head.threshold = THRESHOLD;
+    print_check();
+    memory[2] = kind;
+    print_check();
+}
 
 int main(void)
 {
@@ -41,5 +69,6 @@ int main(void)
         printf("%s%02X", byte == 0 ? "" : " ", (unsigned)answer[byte]);
     }
     printf("\n");
+    break_and_mend();
     return 0;
 }

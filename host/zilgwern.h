@@ -111,10 +111,13 @@ enum {
     ZILGWERN_WRONG_THRESHOLD = 2,  /* make: threshold outside 1 to 8 */
     ZILGWERN_SHORT_ANSWER = 3,     /* run: answer buffer under 1,024 bytes */
     ZILGWERN_BROKEN_LIST = 4,      /* run: list over 65,536 bytes, a length below 4, or lengths not ending at the list's end */
-    ZILGWERN_NOT_SOUND = 5         /* check, run: a rule is broken; its letter says which */
+    ZILGWERN_NOT_SOUND = 5         /* check, run: the store is not sound; the letter is that of the first broken rule */
 };
 
-/* The letter that comes with 5: one of the broken rules, in ASCII. With every other number it is 0. */
+/*
+ * The letter that comes with 5: that of the first broken rule in the order A to G, in ASCII. The rules before it are kept,
+ * those behind it may be broken or not: mend it and check again. With every other number it is 0.
+ */
 enum {
     ZILGWERN_RULE_A = 'A', /* threshold 1 to 8, cursor below P */
     ZILGWERN_RULE_B = 'B', /* each place is free or frozen and in no list, or live and in one list once; only live cards link */
@@ -160,7 +163,7 @@ enum { ZILGWERN_MOVED = 1, ZILGWERN_LINKED = 2, ZILGWERN_MERGED = 3 };
 
 /* What a run gives back beside its number. All 0 but for the letter where the run is refused. */
 typedef struct zilgwern_outcome {
-    uint64_t letter;  /* of a broken rule where the number is 5, else 0 */
+    uint64_t letter;  /* of the first broken rule where the number is 5, else 0 */
     uint64_t served;  /* requests served, refused ones included */
     uint64_t written; /* bytes of the answer buffer that were written; those beyond are untouched */
 } zilgwern_outcome;
@@ -173,7 +176,7 @@ ZILGWERN_STATIC_ASSERT(sizeof(zilgwern_outcome) == 24, "the outcome is 3 words o
 uint64_t zilgwern_make(uint8_t *area, size_t area_bytes, zilgwern_card *cards, size_t card_count, uint16_t *lists,
                        size_t item_count, zilgwern_head *head, uint8_t *memory, uint64_t threshold);
 
-/* Checks whatever is lent and changes nothing but *letter. Gives 0, 1 or 5. */
+/* Checks whatever is lent and changes nothing but *letter: that of the first broken rule with 5, else 0. Gives 0, 1 or 5. */
 uint64_t zilgwern_check(const uint8_t *area, size_t area_bytes, const zilgwern_card *cards, size_t card_count,
                         const uint16_t *lists, size_t item_count, const zilgwern_head *head, const uint8_t *memory,
                         uint64_t *letter);

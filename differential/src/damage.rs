@@ -1,4 +1,5 @@
-//! Random damage to lent memory: what a worn drive or a wrong host could do to it.
+//! Random damage to lent memory, one to four blows at a time: what a worn drive or a wrong host could do to it. Several blows
+//! often break several rules, and the letter must be that of the first.
 
 use reference::generate::damage::{damages, Damage};
 use reference::generate::random::Random;
@@ -25,15 +26,11 @@ const BLOWS: [Blow; 14] = [
     miscount_link,
 ];
 
-/// One to three blows to a sound store. The first may be one of the named damages, which ask for a sound store.
+/// One to four blows; now and then one of them is a named damage.
 pub fn strike(lent: &mut Lent, random: &mut Random) {
-    let mut left = 1 + random.below(3);
-    if random.once_in(8) {
-        named_damage(lent, random);
-        left -= 1;
-    }
-    for _ in 0..left {
+    for _ in 0..1 + random.below(4) {
         let blow = BLOWS[random.below(BLOWS.len())];
+        let blow = if random.once_in(8) { named_damage } else { blow };
         blow(lent, random);
     }
 }

@@ -5,8 +5,8 @@
 //! 0 arbitrary sizes and contents of all pieces; 1 a sound store, damaged; 2 a sound store and an arbitrary list;
 //! 3 a sound store and a list of mostly good requests, cut into runs by the room for answers.
 
-use crate::refused::compared_run;
-use crate::{check, Proved};
+use crate::refused::{broken_name, compared_check, compared_run};
+use crate::Proved;
 use reference::generate::keys::Keys;
 use reference::generate::planted::planted;
 use reference::generate::profile::{Source, PROFILES};
@@ -78,10 +78,7 @@ pub fn try_input(input: &[u8]) -> Result<String, String> {
 /// A name for what a run came to. With number 5 the lent memory is as it was, so that the broken rules can be counted.
 fn name_of(ran: &Ran, after: &Lent) -> String {
     match (ran.number, ran.served) {
-        (5, _) => match rules::check(after).broken.into_iter().collect::<Vec<_>>()[..] {
-            [rule] => format!("number 5, rule {rule:?} alone"),
-            _ => "number 5, several rules".into(),
-        },
+        (5, _) => format!("number 5, {}", broken_name(&rules::check(after).broken)),
         (0, 0) => "number 0, none served".into(),
         (0, _) => "number 0, some served".into(),
         (number, _) => format!("number {number}"),
@@ -119,13 +116,6 @@ fn arbitrary(tape: &mut Tape) -> Result<String, String> {
     lent.lists.fill_with(|| tape.pair());
     lent.cards.iter_mut().flatten().for_each(|word| *word = tape.word());
     lent.area.fill_with(|| tape.byte());
-    let found = rules::check(&lent);
-    let (number, letter) = check(&lent);
-    let fits = found.broken.iter().any(|rule| u64::from(rule.letter()) == letter)
-        || (letter == 0 && found.broken.is_empty());
-    if number != u64::from(found.number) || !fits {
-        return Err(format!("check gives {number} and {letter}, expected {found:?}"));
-    }
     compared_run(&mut lent, list, room).map(|ran| name_of(&ran, &lent))
 }
 
@@ -205,9 +195,16 @@ fn take_last_link(card: &mut Row) {
     }
 }
 
+/// A history that begins at a sound store, which is checked first.
+fn sound_trial(tape: &mut Tape) -> Result<Trial<'static>, String> {
+    let lent = sound_store(tape.pair());
+    compared_check(&lent)?;
+    Ok(Trial::of_sound_store(&Proved, Eyes::Both, lent))
+}
+
 /// Mode 2: the rest of the input is the list.
 fn arbitrary_list(tape: &mut Tape) -> Result<String, String> {
-    let mut trial = Trial::of_sound_store(&Proved, Eyes::Both, sound_store(tape.pair()));
+    let mut trial = sound_trial(tape)?;
     let room = room(tape);
     let list = tape.bytes(usize::MAX);
     let ran = trial.run(list, room).map_err(|finding| format!("{finding:?}"))?;
@@ -216,7 +213,7 @@ fn arbitrary_list(tape: &mut Tape) -> Result<String, String> {
 
 /// Mode 3: requests, run to the last with so much room at a time.
 fn good_list(tape: &mut Tape) -> Result<String, String> {
-    let mut trial = Trial::of_sound_store(&Proved, Eyes::Both, sound_store(tape.pair()));
+    let mut trial = sound_trial(tape)?;
     let room = room(tape);
     let list = good_requests(tape);
     let mut rest = &list[..];

@@ -9,9 +9,11 @@ pub struct Guarded<T> {
 
 impl<T: Clone + PartialEq> Guarded<T> {
     pub fn of(inside: &[T], guard: T) -> Guarded<T> {
-        let mut all = vec![guard.clone(); GUARDS];
+        // Room for all at once: every call of every test goes through here.
+        let mut all = Vec::with_capacity(GUARDS + inside.len() + GUARDS);
+        all.resize(GUARDS, guard.clone());
         all.extend_from_slice(inside);
-        all.extend(std::iter::repeat_n(guard.clone(), GUARDS));
+        all.resize(GUARDS + inside.len() + GUARDS, guard.clone());
         Guarded { all, guard }
     }
 
@@ -27,11 +29,12 @@ impl<T: Clone + PartialEq> Guarded<T> {
 
     /// The buffer, if all guards are as they were.
     pub fn back(mut self, name: &str) -> Vec<T> {
-        let behind = self.all.split_off(self.all.len() - GUARDS);
-        let inside = self.all.split_off(GUARDS);
+        let end = self.all.len() - GUARDS;
         let intact = |guards: &[T]| guards.iter().all(|guard| *guard == self.guard);
-        assert!(intact(&self.all), "{name}: written before its start");
-        assert!(intact(&behind), "{name}: written beyond its end");
-        inside
+        assert!(intact(&self.all[..GUARDS]), "{name}: written before its start");
+        assert!(intact(&self.all[end..]), "{name}: written beyond its end");
+        self.all.truncate(end);
+        self.all.drain(..GUARDS);
+        self.all
     }
 }

@@ -1,15 +1,17 @@
-//! The proved check against the second implementation: on sound stores with one to three random damages the number is 0
-//! exactly where no rule is broken, the letter is that of a broken rule, and nothing that was lent is changed.
+//! The proved check and run against the second implementation: on sound stores with one to four random damages both give 0
+//! exactly where no rule is broken, else 5 and the letter of the first broken one, and nothing that was lent is changed.
 
-use differential::{check, damage::strike};
+use differential::{damage::strike, Proved};
 use reference::generate::keys::Keys;
 use reference::generate::planted::planted;
 use reference::generate::profile::{Source, PROFILES};
 use reference::generate::random::Random;
 use reference::lent::{Lent, ROW_FREE};
-use reference::rules::{self, Rule};
+use reference::letters::said;
+use reference::reached::Reached;
+use reference::rules::{self, letter_of, Rule, Verdict};
 use reference::run::{make, run};
-use std::collections::BTreeMap;
+use reference::together::{self, can_break, pairs};
 
 const KEYS: [Keys; 3] = [Keys::Dense(300), Keys::Wide(400), Keys::Edges(100)];
 // Every second one comes out of a history, so that over 200,000 damaged stores do; the others are planted.
@@ -32,43 +34,48 @@ fn sound_store(random: &mut Random, number: usize) -> Lent {
     lent
 }
 
-fn agree(lent: &Lent, seen: &mut BTreeMap<String, usize>) {
-    let right = rules::check(lent);
-    let (number, letter) = check(lent);
-    assert_eq!(number, u64::from(right.number), "{:?}", right.broken);
+fn agree(lent: &Lent, reached: &mut Reached) {
+    let Verdict { number, broken } = rules::check(lent);
+    let letter = letter_of(&broken, None);
+    assert_eq!(said(&Proved, lent), Ok((number, letter)), "{broken:?}");
+    reached.count(outcome_name(number, letter));
     if number == 5 {
-        assert!(
-            right.broken.iter().any(|rule| u64::from(rule.letter()) == letter),
-            "letter {letter}, broken {:?}",
-            right.broken
-        );
-        *seen.entry(format!("letter {}", char::from(letter as u8))).or_default() += 1;
-    } else {
-        assert_eq!(letter, 0);
-        *seen.entry(format!("number {number}")).or_default() += 1;
+        together::count(reached, &broken);
     }
+}
+
+fn outcome_name(number: u16, letter: u8) -> String {
+    match number {
+        5 => format!("letter {}", char::from(letter)),
+        _ => format!("number {number}"),
+    }
+}
+
+/// Every letter, one to four rules at once, and every two rules that can be broken in one store.
+fn required() -> Vec<String> {
+    let mut names = together::required(pairs().filter(|pair| can_break(*pair)));
+    names.extend(Rule::ALL.map(|rule| outcome_name(5, rule.letter())));
+    names
 }
 
 /// Each half is one thread's work, so that cores share it.
 fn judged_alike(seed: u64, numbers: std::ops::Range<usize>) {
     let mut random = Random::new(seed);
-    let mut seen = BTreeMap::new();
-    let stores = numbers.len();
+    let mut reached = Reached::requiring(required());
+    let stores = numbers.len() as u64;
     for number in numbers {
         let sound = sound_store(&mut random, number);
-        agree(&sound, &mut seen);
+        agree(&sound, &mut reached);
         for _ in 0..DAMAGED_EACH {
             let mut lent = sound.clone();
             strike(&mut lent, &mut random);
-            agree(&lent, &mut seen);
+            agree(&lent, &mut reached);
         }
     }
-    println!("{seen:#?}");
-    for rule in Rule::ALL {
-        let letter = format!("letter {}", char::from(rule.letter()));
-        assert!(seen.contains_key(&letter), "{letter} never came");
-    }
-    assert!(seen["number 0"] > stores, "no damage was harmless");
+    println!("{reached}");
+    assert!(reached.missing().is_empty(), "never reached: {:?}", reached.missing());
+    together::none_but_possible(&reached);
+    assert!(reached.times("number 0") > stores, "no damage was harmless");
 }
 
 #[test]
@@ -85,7 +92,7 @@ fn further_damaged_stores_are_judged_alike() {
 fn wrong_sizes_are_number_1() {
     let mut random = Random::new(6);
     let sound = planted(&mut random, 20, KEYS[0]).encode();
-    let mut seen = BTreeMap::new();
+    let mut reached = Reached::default();
     let mut wrong = Vec::new();
     for bytes in [0, 1, 1023, 1024 * 15, 15_000, 1024 * 20 - 1, 1024 * 20 + 1, 1024 * 21] {
         let mut lent = sound.clone();
@@ -103,7 +110,7 @@ fn wrong_sizes_are_number_1() {
         wrong.push(lent);
     }
     for lent in &wrong {
-        agree(lent, &mut seen);
+        agree(lent, &mut reached);
     }
-    assert_eq!(seen["number 1"], wrong.len());
+    assert_eq!(reached.times("number 1"), wrong.len() as u64);
 }

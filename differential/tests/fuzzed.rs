@@ -1,6 +1,7 @@
 //! The fuzz target over inputs of its own making: no difference, and each mode reaches what it is for.
 
 use differential::fuzz::{input_lending, input_of, sound_store, try_input};
+use differential::refused::all_broken_names;
 use reference::reached::Reached;
 use reference::rules;
 
@@ -11,7 +12,7 @@ fn required() -> Vec<String> {
         names.extend(numbers.iter().map(|number| format!("mode {mode}: number {number}")));
         names.push(format!("mode {mode}: number 0, some served"));
     }
-    names.extend(('A'..='G').map(|rule| format!("mode 1: number 5, rule {rule} alone")));
+    names.extend(all_broken_names().map(|name| format!("mode 1: number 5, {name}")));
     names
 }
 

@@ -1,7 +1,7 @@
 //! What an implementation of the store looks like from outside, so that any can be judged.
 
 use crate::lent::Lent;
-use crate::rules::{check, Broken};
+use crate::rules::{check, letter_of};
 use crate::run::{make, run_with_slip};
 use crate::slip::Slip;
 
@@ -9,7 +9,7 @@ use crate::slip::Slip;
 #[derive(Clone, Copy, PartialEq, Eq, Debug)]
 pub struct Ran {
     pub number: u16,
-    /// The letter of a broken rule where the number is 5, else 0.
+    /// The letter of the first broken rule where the number is 5, else 0.
     pub letter: u8,
     pub served: usize,
     pub written: usize,
@@ -20,7 +20,7 @@ pub trait Implementation {
     /// Makes a new store: 0, 1 or 2.
     fn make(&self, lent: &mut Lent, threshold: u64) -> u16;
 
-    /// Checks a store: 0, 1 or 5, and the letter of a broken rule with 5, else 0.
+    /// Checks a store: 0, 1 or 5, and the letter of the first broken rule with 5, else 0.
     fn check(&self, lent: &Lent) -> (u16, u8);
 
     /// Runs a list and writes answers to the front of the buffer.
@@ -33,11 +33,6 @@ pub struct Reference {
     pub slip: Option<Slip>,
 }
 
-/// The first of the broken rules as a letter, 0 if none is broken.
-fn first_letter(broken: &Broken) -> u8 {
-    broken.first().map_or(0, |rule| rule.letter())
-}
-
 impl Implementation for Reference {
     fn make(&self, lent: &mut Lent, threshold: u64) -> u16 {
         make(lent, threshold)
@@ -45,14 +40,14 @@ impl Implementation for Reference {
 
     fn check(&self, lent: &Lent) -> (u16, u8) {
         let verdict = check(lent);
-        (verdict.number, first_letter(&verdict.broken))
+        (verdict.number, letter_of(&verdict.broken, self.slip))
     }
 
     fn run(&self, lent: &mut Lent, list: &[u8], answers: &mut [u8]) -> Ran {
         let outcome = run_with_slip(lent, list, answers.len(), self.slip);
         let written = outcome.answers.len();
         answers[..written].copy_from_slice(&outcome.answers);
-        let letter = first_letter(&outcome.broken);
+        let letter = letter_of(&outcome.broken, self.slip);
         Ran { number: outcome.number, letter, served: outcome.served, written }
     }
 }

@@ -74,6 +74,13 @@ impl Lent {
         &self.area[place * PLACE_BYTES..][..PLACE_BYTES]
     }
 
+    /// The items in use of a level's list; of a length beyond P only P items are there.
+    pub fn list(&self, level: usize) -> &[u16] {
+        let places = self.cards.len();
+        let length = self.head[HEAD_LENGTHS + level].min(places as u64);
+        &self.lists[level * places..][..length as usize]
+    }
+
     /// The links on a card, each as its words; of a count beyond a row's room only that many are there.
     pub fn links(&self, place: usize) -> impl Iterator<Item = &[u64]> {
         let row = &self.cards[place];

@@ -1,7 +1,8 @@
-//! Rules A to G over lent memory of any content: the set of all that are broken.
+//! Rules A to G over lent memory of any content: the set of all that are broken, and the letter that goes by the first of them.
 
 use crate::lent::*;
 use crate::limits::{CARD_LINKS, LEVELS, THRESHOLDS};
+use crate::slip::Slip;
 use crate::table::{read_table, Key, Shown};
 use std::collections::{BTreeMap, BTreeSet};
 
@@ -18,6 +19,7 @@ pub enum Rule {
 }
 
 impl Rule {
+    /// In the order that the letter goes by.
     pub const ALL: [Rule; 7] = [Rule::A, Rule::B, Rule::C, Rule::D, Rule::E, Rule::F, Rule::G];
 
     /// The letter as its ASCII code.
@@ -26,8 +28,21 @@ impl Rule {
     }
 }
 
-/// All broken rules.
+/// All broken rules. Each is judged by itself, so that it does not matter which is tried first.
 pub type Broken = BTreeSet<Rule>;
+
+/// The letter that comes with these broken rules: that of the first in the order A to G, 0 where none is broken. A slip goes by
+/// another order.
+pub fn letter_of(broken: &Broken, slip: Option<Slip>) -> u8 {
+    use Rule::*;
+    let order = match slip {
+        Some(Slip::MemoryJudgedBeforePlaces) => [A, B, D, C, E, F, G],
+        Some(Slip::FrozenJudgedWithLinks) => [A, B, C, D, F, E, G],
+        Some(Slip::LastBrokenGiven) => [G, F, E, D, C, B, A],
+        _ => Rule::ALL,
+    };
+    order.iter().find(|rule| broken.contains(rule)).map_or(0, |rule| rule.letter())
+}
 
 /// The answer of a check: 0, 1 or 5, and with 5 every broken rule.
 #[derive(Clone, PartialEq, Eq, Debug)]
@@ -65,15 +80,15 @@ struct Image<'a> {
 
 impl<'a> Image<'a> {
     fn broken(&self) -> Broken {
-        let tables = self.tables();
+        let (listed_right, tables) = (self.rule_b(), self.tables());
         let mut kept = vec![
             (Rule::A, self.rule_a()),
-            (Rule::B, self.rule_b()),
+            (Rule::B, listed_right),
             (Rule::C, tables.is_some()),
             (Rule::D, read_table(&self.lent.memory, 0).is_some()),
         ];
         // E, F and G speak of listed tables and their entries: without B and C they count as kept.
-        if let (true, Some(tables)) = (self.rule_b(), tables) {
+        if let (true, Some(tables)) = (listed_right, tables) {
             let links = self.links();
             kept.push((Rule::E, self.rule_e(&links, &tables)));
             kept.push((Rule::F, self.rule_f(&links)));
@@ -84,12 +99,6 @@ impl<'a> Image<'a> {
 
     fn state(&self, place: usize) -> u64 {
         self.lent.cards[place][ROW_STATE]
-    }
-
-    /// The items in use of a level's list; of a length beyond P only P items are there.
-    fn list(&self, level: usize) -> &'a [u16] {
-        let length = self.lent.head[HEAD_LENGTHS + level].min(self.places as u64);
-        &self.lent.lists[level * self.places..][..length as usize]
     }
 
     /// What live and frozen places show, or none if one of them holds no table (rule C).
@@ -105,7 +114,7 @@ impl<'a> Image<'a> {
     fn links(&self) -> Vec<RawLink> {
         let mut links = Vec::new();
         for level in 0..LEVELS {
-            for item in self.list(level) {
+            for item in self.lent.list(level) {
                 let on = usize::from(*item);
                 links.extend(self.lent.links(on).map(|words| RawLink {
                     on,
@@ -131,7 +140,7 @@ impl<'a> Image<'a> {
             if self.lent.head[HEAD_LENGTHS + level] > self.places as u64 {
                 return false;
             }
-            for item in self.list(level) {
+            for item in self.lent.list(level) {
                 match listed.get_mut(usize::from(*item)) {
                     Some(times) => *times += 1,
                     None => return false,
@@ -148,7 +157,7 @@ impl<'a> Image<'a> {
     fn rule_e(&self, links: &[RawLink], tables: &[Shown]) -> bool {
         let threshold = self.lent.head[HEAD_THRESHOLD];
         let few = self.lent.cards.iter().all(|row| row[ROW_COUNT] <= threshold);
-        let level_0_bare = self.list(0).iter().all(|place| {
+        let level_0_bare = self.lent.list(0).iter().all(|place| {
             let row = &self.lent.cards[usize::from(*place)];
             row[ROW_COUNT] == 0
         });
@@ -188,7 +197,7 @@ impl<'a> Image<'a> {
             (keys.iter().min().copied(), keys.iter().max().copied())
         };
         (1..LEVELS).all(|level| {
-            let spans: Vec<_> = self.list(level).iter().map(span).collect();
+            let spans: Vec<_> = self.lent.list(level).iter().map(span).collect();
             spans.windows(2).all(|pair| pair[0].1 < pair[1].0)
         })
     }
@@ -204,7 +213,7 @@ impl<'a> Image<'a> {
         });
         let lists_fit = (0..LEVELS).all(|level| {
             let list = &self.lent.lists[level * self.places..][..self.places];
-            list[self.list(level).len()..].iter().all(|item| *item == 0)
+            list[self.lent.list(level).len()..].iter().all(|item| *item == 0)
         });
         marks_fit && rows_fit && lists_fit
     }

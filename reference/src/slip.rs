@@ -145,4 +145,12 @@ slips! {
     NumberWithoutDeleteMarks,
     /// Tables that are due by weight alone wait for all that are due by count.
     DueByCountFirst,
+
+    // The first broken rule (note 3).
+    /// The memory table is judged before the places: D is given where C and D are broken.
+    MemoryJudgedBeforePlaces,
+    /// Frozen places are judged while the links are walked: F is given where E and F are broken.
+    FrozenJudgedWithLinks,
+    /// The last broken rule is given.
+    LastBrokenGiven,
 }

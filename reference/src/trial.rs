@@ -5,7 +5,6 @@ use crate::implementation::{Implementation, Ran, Reference};
 use crate::judge::Judge;
 use crate::lent::Lent;
 use crate::reached::{Reached, STOPS};
-use crate::rules::check;
 
 /// What looks at a run.
 #[derive(Clone, Copy, PartialEq, Eq, Debug)]
@@ -127,7 +126,7 @@ impl<'a> Trial<'a> {
     }
 }
 
-/// Runs the same list by the second implementation and compares all numbers and all bytes.
+/// Runs the same list by the second implementation and compares all numbers, the letter and all bytes.
 pub fn compare(
     before: Lent,
     list: &[u8],
@@ -138,12 +137,7 @@ pub fn compare(
     let mut lent = before;
     let mut expected = vec![UNTOUCHED; answers.len()];
     let own = Reference::default().run(&mut lent, list, &mut expected);
-    // With number 5 the letter of any broken rule will do.
-    let letter_fits = match own.number {
-        5 => check(&lent).broken.iter().any(|rule| rule.letter() == ran.letter),
-        _ => ran.letter == 0,
-    };
-    if !letter_fits || (Ran { letter: own.letter, ..*ran }) != own {
+    if *ran != own {
         return Err(format!("gives {ran:?}, expected {own:?}"));
     }
     if let Some(byte) = (0..answers.len()).find(|byte| answers[*byte] != expected[*byte]) {

@@ -2,7 +2,7 @@
 
 use std::fmt;
 use std::io::ErrorKind;
-use zilgwern::{Error, Refusal, Refused};
+use zilgwern::{Error, Refusal, Refused, Rule};
 
 #[derive(Debug)]
 pub enum Failure {
@@ -51,6 +51,16 @@ impl Failure {
         }
     }
 
+    /// The first broken rule, where the store is not sound.
+    pub fn first_broken(&self) -> Option<Rule> {
+        match self {
+            Failure::Hinted(inner, _) => inner.first_broken(),
+            Failure::Refused(Error::Refused(Refused::NotSound(rule)))
+            | Failure::RefusedIn(_, Error::Refused(Refused::NotSound(rule))) => Some(*rule),
+            _ => None,
+        }
+    }
+
     /// As the help text lists them.
     pub fn status(&self) -> u8 {
         match self {
@@ -84,8 +94,8 @@ impl fmt::Display for Failure {
     }
 }
 
-/// A refusal by its number, with what can be done about it; that of a damaged store by the letter and the text of the
-/// broken rule.
+/// A refusal by its number, with what can be done about it; that of a damaged store with the text of the first broken rule and
+/// what is known of the others.
 fn refusal(out: &mut fmt::Formatter, error: &Error) -> fmt::Result {
     write!(out, "refused, {error}")?;
     match error {
@@ -100,9 +110,23 @@ fn refusal(out: &mut fmt::Formatter, error: &Error) -> fmt::Result {
         Error::Refused(Refused::NotSound(rule)) => {
             let (letter, text) = (rule.letter(), rule.explanation());
             paragraph(out, &format!("Rule {letter} of a sound store: {text}"))?;
+            write!(out, "\n  {}", other_rules(*rule))?;
             write!(out, "\n  Nothing was changed. Bring back a copy that is sound.")
         }
         _ => Ok(()),
+    }
+}
+
+/// What is known of the other rules where this is the first broken one.
+fn other_rules(first: Rule) -> &'static str {
+    match first {
+        Rule::A => "Rules B to G may be broken too.",
+        Rule::B => "Rule A holds; rules C to G may be broken too.",
+        Rule::C => "Rules A and B hold; rules D to G may be broken too.",
+        Rule::D => "Rules A to C hold; rules E to G may be broken too.",
+        Rule::E => "Rules A to D hold; rules F and G may be broken too.",
+        Rule::F => "Rules A to E hold; rule G may be broken too.",
+        Rule::G => "Rules A to F hold.",
     }
 }
 

@@ -22,7 +22,7 @@ On the store, also as lines of a script or at the prompt:
   tidy                 one step of compaction
   tidy all             steps until there is nothing to do
   report               counts of places, tables, links, memory entries
-  check                whether the store is sound
+  check                whether the store is sound, or its first broken rule
   show                 what stands where, as a picture
 
 Others:
@@ -149,7 +149,17 @@ entries of the memory table.
         "\
 check
 
-Prints `sound`, or the letter and the text of a rule that is broken.
+Prints `sound`; or `first broken rule` and its letter, the first in the order A
+to G. Then the exit status is 3, and the text of the rule is on standard error.
+The rules before it hold, those behind it may be broken too: mend it and check
+again, and the next letter comes. A file that is no store is refused by 1, with
+status 3 too, but has no letter: nothing is on standard output.
+
+Stores sorted by their letters:
+
+  for file in *.store; do
+    echo \"$(surveyctl --store \"$file\" check 2> /dev/null) $file\"
+  done | sort
 ",
     ),
     (

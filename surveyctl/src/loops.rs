@@ -18,7 +18,14 @@ pub fn one(options: &Options, streams: &mut Streams) -> Result<(), Failure> {
     }
     // Known words first: a store is not opened for words that mean nothing.
     let Some(command) = Command::of(&line_of(options)).map_err(hinted)? else { return Ok(()) };
-    let mut session = Session::begin(options)?;
+    let begun = Session::begin(options);
+    if let (Command::Check, Err(failure)) = (&command, &begun) {
+        // The answer to what was asked, where `sound` would stand; scripts sort by it.
+        if let Some(rule) = failure.first_broken() {
+            writeln!(streams.out, "first broken rule {}", rule.letter())?;
+        }
+    }
+    let mut session = begun?;
     if command.wants_store() && !session.is_kept() {
         let words = "no --store FILE is named, so this is done on a new store and then forgotten";
         writeln!(streams.err, "surveyctl: {words}")?;

@@ -1,4 +1,4 @@
-//! A damaged file is refused by the letter of a broken rule, with that rule's text, and left as it is.
+//! A damaged file is refused by the letter of the first broken rule, with that rule's text, and left as it is.
 
 mod common;
 
@@ -29,10 +29,10 @@ fn linked(name: &str) -> (Folder, Vec<u8>) {
     (folder, bytes)
 }
 
-/// Damage with its name, and the one rule that it breaks, whose letter must come.
+/// Damage with its name, and the first rule that it breaks, whose letter must come.
 type Damage = (Rule, &'static str, fn(&mut [u8]));
 
-const DAMAGES: [Damage; 14] = [
+const DAMAGES: [Damage; 15] = [
     (Rule::A, "threshold 9", |bytes| bytes[HEAD] = 9),
     (Rule::A, "cursor 16", |bytes| bytes[HEAD + 8] = 16),
     (Rule::B, "a live place in no list", |bytes| bytes[CARDS + 9 * CARD] = 1),
@@ -46,7 +46,11 @@ const DAMAGES: [Damage; 14] = [
         bytes[CARDS + 32..CARDS + 40].fill(0);
     }),
     (Rule::E, "a link whose number is not that of its entries", |bytes| bytes[CARDS + 40] = 2),
-    (Rule::F, "a frozen place without a link", |bytes| bytes[CARDS + 8..CARDS + 48].fill(0)),
+    (Rule::F, "a frozen place that had no link", |bytes| {
+        bytes.copy_within(1024..2048, 10 * 1024);
+        bytes[CARDS + 10 * CARD] = 2;
+    }),
+    (Rule::F, "a frozen place without its link", |bytes| bytes[CARDS + 8..CARDS + 48].fill(0)),
     (Rule::G, "a number of a link that is none", |bytes| bytes[CARDS + 72] = 1),
     (Rule::G, "a word of a card beyond its links", |bytes| bytes[CARDS + CARD - 1] = 1),
     (Rule::G, "the key of a mark that is none", |bytes| bytes[HEAD + 24] = 1),
@@ -63,10 +67,14 @@ fn each_rule_is_told_by_its_letter_and_its_text() {
             [&["get", "5"][..], &["check"], &["put", "9", "v"], &["show"], &["tidy", "all"]]
         {
             let Came { status, out, err } = folder.call(&[&["--store", "s"], words].concat());
-            assert_eq!((status, out.as_str()), (3, ""), "{name}");
             let letter = rule.letter();
-            let told = format!("refused, 5: store not sound, rule {letter}: ");
-            assert!(err.contains(&told), "{name}: {err}");
+            let answer = match words {
+                ["check"] => format!("first broken rule {letter}\n"),
+                _ => "".into(),
+            };
+            assert_eq!((status, out), (3, answer), "{name}");
+            let told = format!("s: refused, 5: store not sound, first broken rule {letter}: ");
+            assert!(err.starts_with(&format!("surveyctl: {told}")), "{name}: {err}");
             assert!(err.lines().skip(1).all(|line| line.len() <= 80), "{err}");
             let text = format!("Rule {letter} of a sound store: {}", rule.explanation());
             let words: Vec<&str> = err.split_whitespace().collect();
@@ -78,6 +86,72 @@ fn each_rule_is_told_by_its_letter_and_its_text() {
     assert!(Rule::ALL.iter().all(told));
     folder.write("s", &sound);
     assert_eq!(folder.done(&["--store", "s", "check"]), "sound\n");
+}
+
+/// The letters that words name: of `rules A to C` three, of `rules F and G` two, of `rule A` one.
+fn letters_in(words: &str) -> String {
+    let named =
+        words.split([' ', ';', '.']).filter(|word| matches!(word.as_bytes(), [b'A'..=b'G']));
+    let named: Vec<char> = named.flat_map(str::chars).collect();
+    named.first().map_or("".into(), |first| (*first..=named[named.len() - 1]).collect())
+}
+
+/// Does the first damage of each of these rules to the file, and wants `check` to tell this letter, the rules before it as held
+/// and those behind it as perhaps broken.
+fn told(folder: &Folder, sound: &[u8], rules: &[Rule], letter: char) {
+    let mut bytes = sound.to_vec();
+    for rule in rules {
+        DAMAGES.iter().find(|(broken, ..)| broken == rule).expect("a damage").2(&mut bytes);
+    }
+    folder.write("s", &bytes);
+    let Came { status, out, err } = folder.call(&["--store", "s", "check"]);
+    assert_eq!((status, out), (3, format!("first broken rule {letter}\n")), "{rules:?}");
+    let others = err.lines().rev().nth(1).expect("a line before the last");
+    let (held, perhaps) = others.split_once(" hold").unwrap_or(("", others));
+    let (before, behind) = "ABCDEFG".split_once(letter).expect("a letter");
+    assert_eq!(
+        (letters_in(held).as_str(), letters_in(perhaps).as_str()),
+        (before, behind),
+        "{err}"
+    );
+    assert_eq!(perhaps.contains("may be broken too"), !behind.is_empty(), "{err}");
+}
+
+#[test]
+fn of_several_damages_the_first_is_told() {
+    use Rule::*;
+    let (folder, sound) = linked("several");
+    let neighbours =
+        [([A, B], 'A'), ([B, C], 'B'), ([C, D], 'C'), ([D, E], 'D'), ([E, F], 'E'), ([F, G], 'F')];
+    let others =
+        [([A, D], 'A'), ([A, G], 'A'), ([B, E], 'B'), ([C, G], 'C'), ([D, F], 'D'), ([E, G], 'E')];
+    for (rules, letter) in neighbours.into_iter().chain(others) {
+        told(&folder, &sound, &rules, letter);
+        // Which damage came last does not matter.
+        told(&folder, &sound, &[rules[1], rules[0]], letter);
+    }
+    // All seven, mended from the first on: the next letter comes each time.
+    for (mended, letter) in "ABCDEFG".chars().enumerate() {
+        told(&folder, &sound, &Rule::ALL[mended..], letter);
+    }
+}
+
+/// The help text of `check` shows how to sort stores; its lines are run here. A file that is no store has no letter.
+#[test]
+fn stores_are_sorted_by_their_letters_as_the_help_text_shows() {
+    let (folder, sound) = linked("sorted");
+    let mut two = sound.clone();
+    (two[HEAD], two[MEMORY + 2]) = (9, 0);
+    let mut one = sound.clone();
+    one[CARDS + 40] = 9;
+    for (name, bytes) in [("1", &sound[..]), ("2", &one), ("3 4", &two), ("5", &sound[1..])] {
+        folder.write(&format!("{name}.store"), bytes);
+    }
+    let help = folder.done(&["help", "check"]);
+    let lines: Vec<&str> = help.lines().filter_map(|line| line.strip_prefix("  ")).collect();
+    let sorted =
+        " 5.store\nfirst broken rule A 3 4.store\nfirst broken rule E 2.store\nsound 1.store\n";
+    assert_eq!(folder.shell(&format!("export LC_ALL=C; {}", lines.join("\n"))), sorted);
 }
 
 #[test]

@@ -146,7 +146,8 @@ fn every_command_has_a_help_text() {
         count += 1;
     }
     assert!(count > 15);
-    let texts = ["put", "scan", "script", "replay", "decode"].map(|it| folder.done(&["help", it]));
+    let texts = ["put", "scan", "check", "script", "replay", "decode"];
+    let texts = texts.map(|it| folder.done(&["help", it]));
     let long = texts.iter().chain([&all]).flat_map(|text| text.lines()).find(|it| it.len() > 80);
     assert_eq!(long, None, "a terminal has 80 columns");
     assert_eq!(folder.call(&["help", "frob"]).status, 2);

@@ -1,11 +1,11 @@
-// Checking a store: any bytes and numbers at all may be lent, and each kind of damage is found by the letter of a broken rule.
+// Checking a store: any bytes and numbers at all may be lent, and damage is told by the letter of the first broken rule.
 //
 // A module for each rule of document 01, "Sound store", here and in `check_places` and `check_links`; each assumes no more than what was
 // found before it. Rule D is a test of `table`.
 ghost use mathlib.Core.Path.{_≡_};
 ghost use mathlib.Core.Bool.{true};
-ghost use Rattle.ldc.specs.Lent.{sizesGood, broken};
-ghost use Rattle.check_store.specs.Answer.{Answers, firstLetter};
+ghost use Rattle.ldc.specs.Lent.{sizesGood, firstBroken};
+ghost use Rattle.check_store.specs.Answer.{Answers};
 ghost use Rattle.book.specs.Pieces.{lent, before};
 use book::head::HeadWords;
 use book::row::Row;
@@ -22,7 +22,7 @@ mod letters;
 mod rule_a;
 mod rule_g;
 
-// What a check answers: accepted, wrong sizes or unsound, and with the last the letter of a broken rule.
+// What a check answers: accepted, wrong sizes or unsound, and with the last the letter of the first broken rule.
 pub struct Checked {
     pub number: u64,
     pub letter: u64,
@@ -40,7 +40,7 @@ fn first_broken(
         sizesGood (lent (now area) (now cards) (now lists) (now head) (now memory)) ≡ true
         ⌝ }
     ensures { λ r. ⌜
-        r ≡ firstLetter (broken (before area cards lists head memory))
+        r ≡ firstBroken (before area cards lists head memory)
         ⌝ }
 {
     if !rule_a::kept(head, cards.len()) {

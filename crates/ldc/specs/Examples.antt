@@ -1,6 +1,6 @@
 -- The checked examples P1 to P10 of document 01, and one for note 2 of document 02, as one table: what the definition computes beside
--- what the papers say; and a second table with a case for each slip. `proofs/Demand/Examples` shows that each row agrees. What is
--- expected stands in plain numbers, as in document 01.
+-- what the papers say; a second table with a case for each slip, and a third with the letters of damaged memory.
+-- `proofs/Demand/Examples` shows that each row agrees. What is expected stands in plain numbers, as in document 01.
 use Prim.Native.Nat.{ℕ, zero, suc, _+_, _-_, _%_}
 use mathlib.Core.List.{List, [], _∷_, _++_, map}
 use mathlib.Core.Bool.{Bool, true, cond, _&&_}
@@ -19,6 +19,8 @@ use Rattle.ldc.specs.Steps.{doLink, sameBytes}
 use Rattle.ldc.specs.Serve.{serve}
 use Rattle.ldc.specs.History.{fed}
 use Rattle.ldc.specs.Layout.{fewestPlaces, stateWord}
+use Rattle.ldc.specs.Lent.{Lent, lentOf, broken}
+use Rattle.ldc.specs.Run.{check, letterOf}
 
 -- A row: what is computed, and what it should be.
 pub record Example : Type 0 where
@@ -232,6 +234,36 @@ slips =
       computed = length (fed (record { request = askPutByte 1 65; reply = replyBytes putKind memoryFull [] }) []) ∷ [];
       expected = 0 ∷ [];
     }
+    ∷ []
+
+-- ---- damaged memory: the letter that comes with 5 (document 02, note 3)
+
+-- Of a store with these bytes for its memory table: the number that a check gives, the letter, and the letters of all broken rules.
+abbrev checked : Store → (memory : List ℕ) → List ℕ
+checked s memory =
+    let m : Lent = record { area = lentOf s .area; cards = lentOf s .cards; lists = lentOf s .lists; head = lentOf s .head; memory = memory } in
+    check m ∷ letterOf m (check m) ∷ broken m
+
+-- Place 0 is live on level 0, with a table that has no entry.
+abbrev hollow : (threshold : ℕ) → Store
+hollow t = plantedWith t ([] ∷ []) (live [] ∷ []) ((0 ∷ []) ∷ [] ∷ [] ∷ [] ∷ [])
+
+-- Level 1 has the tables 10 and 20, and the first one's link names the second, which is not frozen.
+abbrev mislinked : Store
+mislinked =
+    plantedWith 4 (tableOf (10 ∷ []) ∷ tableOf (20 ∷ []) ∷ []) (live (single 1 0 greatest ∷ []) ∷ live [] ∷ [])
+    ([] ∷ (0 ∷ 1 ∷ []) ∷ [] ∷ [] ∷ [])
+
+unfoldable pub letters : List Example
+letters =
+    -- A (65) before C and D
+    record { computed = checked (hollow 9) (zeros placeSize); expected = 5 ∷ 65 ∷ 65 ∷ 67 ∷ 68 ∷ [] }
+    -- C (67) before D
+    ∷ record { computed = checked (hollow 4) (zeros placeSize); expected = 5 ∷ 67 ∷ 67 ∷ 68 ∷ [] }
+    -- E (69) before F and G
+    ∷ record { computed = checked mislinked (tableBytes []); expected = 5 ∷ 69 ∷ 69 ∷ 70 ∷ 71 ∷ [] }
+    -- a sound store: no letter
+    ∷ record { computed = checked (new 4) (tableBytes []); expected = 0 ∷ 0 ∷ [] }
     ∷ []
 
 -- Do all rows agree?

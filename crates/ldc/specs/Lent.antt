@@ -4,7 +4,7 @@ use Prim.Native.Nat.{ℕ, zero, suc, _*_, _/_, _%_, _-_}
 use mathlib.Core.List.{List, [], _∷_, _++_, map}
 use mathlib.Core.Bool.{Bool, cond, not, _&&_, _||_}
 use lib.Dec.{leb, eqb}
-use lib.ListN.{length, take, drop}
+use lib.ListN.{length, getD, take, drop}
 use Rattle.table.specs.Limits.{placeSize}
 use Rattle.table.specs.Table.{entries, tableBytes, isMemory, allZero, zeros}
 use Rattle.ldc.specs.Lists.{all, flat, allFrom}
@@ -98,7 +98,8 @@ unusedZero m =
     && (all (λ row. allZero (rowRest row)) (m .cards)
     && allFrom levelCount 0 (λ n. allZero (drop (listLength m n) (listPart m n))))
 
--- Is a rule broken? E, F and G presuppose B and C, and count as kept where one of these is broken.
+-- Is a rule broken? E, F and G presuppose B and C, and count as kept where one of these is broken. (That does not show: the letter is then B, C
+-- or an earlier one.)
 unfoldable pub keptB : Lent → Bool
 keptB m = numbersGood m && ruleB (storeOf m)
 
@@ -136,7 +137,7 @@ letterF = 70
 abbrev pub letterG : ℕ
 letterG = 71
 
--- The letters of the broken rules.
+-- The letters of the broken rules, in the order A to G.
 abbrev pub letter : Bool → ℕ → List ℕ
 letter kept l = cond kept [] (l ∷ [])
 
@@ -149,3 +150,7 @@ broken m =
     ++ (letter (keptE m) letterE
     ++ (letter (keptF m) letterF
     ++ letter (keptG m) letterG)))))
+
+-- The first broken rule in the order A to G; 0 where none is broken.
+unfoldable pub firstBroken : Lent → ℕ
+firstBroken m = getD (broken m) 0 0

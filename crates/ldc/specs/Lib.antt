@@ -3,7 +3,7 @@
 --   Store      links, cards, the store, a new store, spans, what is to be read of a table
 --   Rules      a sound store: rules A to G as far as they speak of the store
 --   Layout     which word of the book means what
---   Lent       the lent bytes and numbers; the store that they show; numbers 1 and 5, and the letters of the broken rules
+--   Lent       the lent bytes and numbers; the store that they show; numbers 1 and 5, the broken rules and the first of them
 --   Request    requests and replies: kinds and results by name, body lengths, bytes
 --   Memtable   put and delete
 --   Place      the place taken, tables written, flush
@@ -14,7 +14,7 @@
 --   Run        splitting a list, serving it, run, check and make, with numbers 1 to 5 by name
 --   History    histories, the latest-write map, the slice list, and `Demand3`
 --   Facts      rising spans, a table to be merged or taken down, the sizes of the lent pieces: what contracts of the code name
---   Examples   P1 to P10, the example of note 2, and a case for each slip
+--   Examples   P1 to P10, the example of note 2, a case for each slip, and the letters of damaged memory
 pub mod Lists
 pub mod Store
 pub mod Rules

@@ -3,14 +3,14 @@ use Prim.Native.Nat.{ℕ, zero, suc, _+_, _-_}
 use mathlib.Core.List.{List, [], _∷_, _++_}
 use mathlib.Core.Bool.{Bool, cond, _&&_}
 use mathlib.Core.Option.{Option, some, none, Option·map}
-use lib.Dec.{leb, ltb, eqb, T}
+use lib.Dec.{leb, ltb, eqb}
 use lib.ListN.{length, take, drop}
 use lib.Seq.{sets}
 use Rattle.table.specs.Entry.{lengthAt, kindAt}
-use Rattle.ldc.specs.Lists.{any, isEmpty}
+use Rattle.ldc.specs.Lists.{isEmpty}
 use Rattle.ldc.specs.Store.{Store, newStore}
 use Rattle.ldc.specs.Rules.{thresholdGood}
-use Rattle.ldc.specs.Lent.{Lent, sizesGood, placesIn, chop, storeOf, lentOf, broken}
+use Rattle.ldc.specs.Lent.{Lent, sizesGood, placesIn, chop, storeOf, lentOf, broken, firstBroken}
 use Rattle.ldc.specs.Request.{requestHeadSize, Request, replyOf}
 use Rattle.ldc.specs.Serve.{serve}
 
@@ -126,9 +126,9 @@ run m list answer =
 unfoldable pub check : Lent → ℕ
 check m = cond (sizesGood m) (cond (isEmpty (broken m)) accepted unsound) wrongSizes
 
--- The letter that comes with 5 is that of a broken rule; which one is left open here. With every other number it is 0.
-unfoldable pub LetterOf : Lent → (number letter : ℕ) → Type 0
-LetterOf m number l = T (cond (eqb number unsound) (any (eqb l) (broken m)) (eqb l 0))
+-- The letter that comes with 5 is the first broken rule in the order A to G. With every other number it is 0.
+unfoldable pub letterOf : Lent → (number : ℕ) → ℕ
+letterOf m number = cond (eqb number unsound) (firstBroken m) 0
 
 -- What making a store returns and leaves: 1 for sizes, then 2 for a threshold outside 1 to 8, nothing changed; otherwise a new store.
 pub record Made : Type 0 where

@@ -3,7 +3,7 @@
 // Each function is a proved one under an exported name. A slice is lent as a pointer and a count, an array as a pointer.
 ghost use mathlib.Core.Path.{_≡_};
 ghost use lib.ListN.{getD};
-ghost use Rattle.ldc.specs.Run.{make, run, LetterOf};
+ghost use Rattle.ldc.specs.Run.{make, run, letterOf};
 ghost use Rattle.book.specs.Made.{made};
 ghost use Rattle.book.specs.Pieces.{after, before};
 ghost use Rattle.check_store.specs.Answer.{Answers};
@@ -29,7 +29,7 @@ pub extern "C" fn zilgwern_make(
     store_make::make(area, cards, lists, head, memory, threshold)
 }
 
-// Checks whatever is lent: 0 for a sound store, 1 for sizes, 5 for a broken rule, whose letter is written in ASCII (else 0).
+// Checks whatever is lent: 0 for a sound store, 1 for sizes, 5 where a rule is broken; the letter of the first one is then written in ASCII (else 0).
 #[no_mangle]
 pub extern "C" fn zilgwern_check(
     area: &[u8],
@@ -48,8 +48,8 @@ pub extern "C" fn zilgwern_check(
     checked.number
 }
 
-// Runs a list of requests over whatever is lent: 0, or refused by 1, 3, 4 or 5, nothing changed. The outcome has three numbers: the letter of a
-// broken rule in ASCII with 5 (else 0), how many requests were served, and how many bytes of the answer were written.
+// Runs a list of requests over whatever is lent: 0, or refused by 1, 3, 4 or 5, nothing changed. The outcome has three numbers: the letter of the
+// first broken rule in ASCII with 5 (else 0), how many requests were served, and how many bytes of the answer were written.
 #[no_mangle]
 pub extern "C" fn zilgwern_run(
     area: &mut [u8],
@@ -65,7 +65,7 @@ pub extern "C" fn zilgwern_run(
         (ran r (getD (now (outcome .exit)) 1 0) (getD (now (outcome .exit)) 2 0)
         (after area cards lists head memory) (now (answer .exit))
         ≡ run (before area cards lists head memory) (now (list .entry)) (now (answer .entry)))
-        × LetterOf (before area cards lists head memory) r (getD (now (outcome .exit)) 0 0)
+        × (getD (now (outcome .exit)) 0 0 ≡ letterOf (before area cards lists head memory) r)
         ⌝ }
 {
     let done = store_run::run(area, cards, lists, head, memory, list, answer);

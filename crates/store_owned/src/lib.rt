@@ -1,6 +1,6 @@
 // The store of a program that holds its cards by value: who calls these functions lends no slice of structs, and needs no proof by hand.
 ghost use mathlib.Core.Path.{_≡_};
-ghost use Rattle.ldc.specs.Run.{run, LetterOf};
+ghost use Rattle.ldc.specs.Run.{run, letterOf};
 ghost use Rattle.book.specs.Made.{made};
 ghost use Rattle.book.specs.Pieces.{after, before};
 ghost use Rattle.serve_list.specs.Ran.{ran};
@@ -65,7 +65,7 @@ pub fn serve(
     ensures { λ r. ⌜
         (ran (r .ran .number) (r .ran .served) (r .ran .written) (afterWith area (r .cards) lists head memory) (now (answer .exit))
         ≡ runOver (now (rows .entry)) (beforeWith area cards lists head memory) (now (list .entry)) (now (answer .entry)))
-        × (LetterOf (beforeWith area cards lists head memory) (r .ran .number) (r .ran .letter)
+        × ((r .ran .letter ≡ letterOf (beforeWith area cards lists head memory) (r .ran .number))
         × Left (r .ran .number) (now (rows .entry)) (now (rows .exit)) cards (r .cards))
         ⌝ }
 {
@@ -90,7 +90,7 @@ pub fn go_on(
     ensures { λ r. ⌜
         ((ran (r .ran .number) (r .ran .served) (r .ran .written) (after area rows lists head memory) (now (answer .exit))
         ≡ run (before area rows lists head memory) (now (list .entry)) (now (answer .entry)))
-        × LetterOf (before area rows lists head memory) (r .ran .number) (r .ran .letter))
+        × (r .ran .letter ≡ letterOf (before area rows lists head memory) (r .ran .number)))
         × (now (rows .exit) ≡ rowsOf (r .cards))
         ⌝ }
 {

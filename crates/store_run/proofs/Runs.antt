@@ -12,7 +12,7 @@ use Rattle.ldc.specs.Lists.{isSome, isEmpty}
 use Rattle.ldc.specs.Lent.{Lent, sizesGood, storeOf, broken}
 use Rattle.ldc.specs.Request.{Request}
 use Rattle.ldc.specs.Run.{accepted, wrongSizes, shortAnswer, brokenList, unsound, split, roomLimit}
-use Rattle.ldc.specs.Run.{Outcome, serveAll, refusedRun, acceptedRun, runSplit, run, check, LetterOf}
+use Rattle.ldc.specs.Run.{Outcome, serveAll, refusedRun, acceptedRun, runSplit, run, check}
 use Rattle.ldc.proofs.Basics.Cases.{cases}
 use Rattle.ldc.proofs.Basics.ListLaws.{empty-list}
 use Rattle.serve_list.specs.Ran.{ran, requestsOf}
@@ -117,9 +117,3 @@ module _ (m : Lent) (z : sizesGood m ≡ true) (number : ℕ) (e : number ≡ ch
   pub check-five : (number ≡ 0 → ⊥) → number ≡ 5
   unfolding check
   check-five n = e ∙ rw (z, check-unsound n)
-
--- ---- letters
-
-pub letter-none : (m : Lent) (number l : ℕ) → eqb number 5 ≡ false → l ≡ 0 → LetterOf m number l
-unfolding LetterOf
-letter-none m number l h e = rw (h, e) tt

@@ -1,7 +1,7 @@
 // Running a list of requests over lent memory: refused, or served.
 ghost use mathlib.Core.Path.{_≡_};
 ghost use lib.ListN.{length};
-ghost use Rattle.ldc.specs.Run.{run, LetterOf};
+ghost use Rattle.ldc.specs.Run.{run, letterOf};
 ghost use Rattle.ldc.specs.Layout.{rowSize};
 ghost use Rattle.ldc.specs.Lent.{Lent};
 ghost use Rattle.book.specs.Pieces.{after, before};
@@ -17,7 +17,7 @@ use wire::list;
 use wire::reply;
 use wire::results;
 
-// What a run returns. The letter, in ASCII, comes with number 5 and is 0 otherwise.
+// What a run returns. The letter, in ASCII, is that of the first broken rule with number 5, and 0 otherwise.
 pub struct Ran {
     pub number: u64,
     pub letter: u64,
@@ -89,7 +89,7 @@ pub fn run(
     ensures { λ r. ⌜
         (ran (r .number) (r .served) (r .written) (after area cards lists head memory) (now (answer .exit))
         ≡ run (before area cards lists head memory) (now (list .entry)) (now (answer .entry)))
-        × LetterOf (before area cards lists head memory) (r .number) (r .letter)
+        × (r .letter ≡ letterOf (before area cards lists head memory) (r .number))
         ⌝ }
 {
     let early = refusal(area.len(), cards.len(), lists.len(), answer.len(), list);

@@ -17,7 +17,7 @@ use lib.ListN.{length}
 use Rattle.ldc.specs.Lists.{isEmpty}
 use Rattle.ldc.specs.Rules.{thresholdGood}
 use Rattle.ldc.specs.Lent.{Lent, sizesGood, broken}
-use Rattle.ldc.specs.Run.{accepted, wrongSizes, unsound, Made, make, check, Outcome, refusedRun, run, LetterOf}
+use Rattle.ldc.specs.Run.{accepted, wrongSizes, unsound, Made, make, check, Outcome, refusedRun, run, letterOf}
 use Rattle.ldc.proofs.Basics.Cases.{cases, both-left, both-right, clash}
 use Rattle.book.specs.Made.{made}
 use Rattle.book.specs.Pieces.{lent}
@@ -28,7 +28,8 @@ use Rattle.store_cards.specs.Card.{rowsOf}
 use Rattle.store_cards.specs.declared.Card.{Card}
 use Rattle.store_cards.proofs.Words.{rows-length}
 use Rattle.store_run.specs.Early.{earlyNumber}
-use Rattle.store_run.proofs.Runs.{passed, early-not-unsound, run-early, run-late, letter-none}
+use Rattle.ldc.proofs.Lent.Letters.{letter-none}
+use Rattle.store_run.proofs.Runs.{passed, early-not-unsound, run-early, run-late}
 use Rattle.store_structs.specs.Over.{asMany, makeOver, checkOver, runOver, earlyOver, rowsAfter, Left}
 
 -- Sizes are good by the lengths alone.
@@ -149,7 +150,7 @@ module _ (A : List ℕ) (rows : List (List ℕ)) (cards : List Card) (I H M : Li
 -- ---- check
 
 module _ (rows : List (List ℕ)) (cards : List Card) (m : Lent) where
-  pub check-refused : asMany rows m && sizesGood m ≡ false → (wrongSizes ≡ checkOver rows m) × (LetterOf m wrongSizes 0 × (rows ≡ rowsAfter wrongSizes rows cards))
+  pub check-refused : asMany rows m && sizesGood m ≡ false → (wrongSizes ≡ checkOver rows m) × ((0 ≡ letterOf m wrongSizes) × (rows ≡ rowsAfter wrongSizes rows cards))
   unfolding checkOver check
   check-refused n = (
     cases (asMany rows m) (λ e. cases (sizesGood m) (λ z. clash (rw (e, z)) n) (λ z. rw (e, z))) (λ e. rw e),
@@ -167,11 +168,11 @@ module _ (rows : List (List ℕ)) (cards : List Card) (m : Lent) where
         cases (isEmpty (broken m)) (λ b. rows-accepted number rows cards (e ∙ rw (z, b))) (λ b. rows-unsound number rows cards (e ∙ rw (z, b)))
 
     pub check-judged : (number letter : ℕ) → Answers m number letter → (rows′ : List (List ℕ)) → rows′ ≡ rowsOf cards
-        → (number ≡ checkOver rows m) × (LetterOf m number letter × (rows′ ≡ rowsAfter number rows cards))
+        → (number ≡ checkOver rows m) × ((letter ≡ letterOf m number) × (rows′ ≡ rowsAfter number rows cards))
     unfolding checkOver
     check-judged number letter a rows′ e = (
       a .number-is ∙ rw (both-left (asMany rows m) (sizesGood m) fit),
-      (a .letter-of, e ∙ judged number (a .number-is)),
+      (a .letter-is, e ∙ judged number (a .number-is)),
     )
 
 -- ---- run
@@ -187,7 +188,7 @@ module _ (A : List ℕ) (rows : List (List ℕ)) (cards : List Card) (I H M list
   run-other n = rw (ne-eqb (length rows) (length (m .cards)) n)
 
   pub run-refused : (early ≡ accepted → ⊥)
-      → (ran early 0 0 m answer ≡ runOver rows m list answer) × (LetterOf m early 0 × Left early rows rows cards cards)
+      → (ran early 0 0 m answer ≡ runOver rows m list answer) × ((0 ≡ letterOf m early) × Left early rows rows cards cards)
   run-refused n =
       cases (asMany rows m)
       (λ e. let same = eqb-true (length rows) (length (m .cards)) e in
@@ -213,9 +214,9 @@ module _ (A : List ℕ) (rows : List (List ℕ)) (cards : List Card) (I H M list
     run-as-many = as-many ∙ rows-length cards
 
     module _ (number served written : ℕ) (A′ : List ℕ) (rows′ : List (List ℕ)) (I′ H′ M′ answer′ : List ℕ) (letter : ℕ)
-        (said : ran number served written (lent A′ rows′ I′ H′ M′) answer′ ≡ run m list answer) (told : LetterOf m number letter) where
+        (said : ran number served written (lent A′ rows′ I′ H′ M′) answer′ ≡ run m list answer) (told : letter ≡ letterOf m number) where
       pub run-unsound : (number ≡ accepted → ⊥)
-          → (ran number served written (lent A′ (rowsOf cards) I′ H′ M′) answer′ ≡ runOver rows m list answer) × (LetterOf m number letter × Left number rows rows′ cards cards)
+          → (ran number served written (lent A′ (rowsOf cards) I′ H′ M′) answer′ ≡ runOver rows m list answer) × ((letter ≡ letterOf m number) × Left number rows rows′ cards cards)
       run-unsound n =
           let p = passed m list answer (early-same rows m (length answer) list as-many ∙ sym found ∙ none) in
           let late = said ∙ run-late m list answer p (λ e. n (ap (λ (o : Outcome). o .number) said ∙ e)) in
@@ -225,7 +226,7 @@ module _ (A : List ℕ) (rows : List (List ℕ)) (cards : List Card) (I H M list
           )
 
       pub run-served : number ≡ accepted → (cards′ : List Card) → rowsOf cards′ ≡ rows′
-          → (ran number served written (lent A′ (rowsOf cards′) I′ H′ M′) answer′ ≡ runOver rows m list answer) × (LetterOf m number letter × Left number rows rows′ cards cards′)
+          → (ran number served written (lent A′ (rowsOf cards′) I′ H′ M′) answer′ ≡ runOver rows m list answer) × ((letter ≡ letterOf m number) × Left number rows rows′ cards cards′)
       run-served n cards′ e = (
         ap (λ (l : List (List ℕ)). ran number served written (lent A′ l I′ H′ M′) answer′) e ∙ said ∙ run-same rows m list answer as-many,
         (told, record { rows-are = sym e ∙ rows-accepted number rows cards′ n; cards-stay = λ r. absurd (r n) }),

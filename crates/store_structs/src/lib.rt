@@ -11,7 +11,7 @@ ghost use Prim.Native.Nat.{ℕ};
 ghost use lib.Dec.{eqb};
 ghost use lib.ListN.{length};
 ghost use Rattle.ldc.specs.Lent.{Lent, sizesGood};
-ghost use Rattle.ldc.specs.Run.{wrongSizes, make, LetterOf};
+ghost use Rattle.ldc.specs.Run.{wrongSizes, make, letterOf};
 ghost use Rattle.book.specs.Made.{made};
 ghost use Rattle.book.specs.Pieces.{after, before};
 ghost use Rattle.check_store.specs.Answer.{Answers};
@@ -111,7 +111,7 @@ pub fn check(
 ) -> Checked
     ensures { λ r. ⌜
         (r .number ≡ checkOver (now (rows .entry)) (beforeOver area cards lists head memory))
-        × (LetterOf (beforeOver area cards lists head memory) (r .number) (r .letter)
+        × ((r .letter ≡ letterOf (beforeOver area cards lists head memory) (r .number))
         × (now (rows .exit) ≡ rowsAfter (r .number) (now (rows .entry)) (now (cards .entry))))
         ⌝ }
 {
@@ -161,7 +161,7 @@ pub fn run(
     ensures { λ r. ⌜
         (ran (r .number) (r .served) (r .written) (afterOver area cards lists head memory) (now (answer .exit))
         ≡ runOver (now (rows .entry)) (beforeOver area cards lists head memory) (now (list .entry)) (now (answer .entry)))
-        × (LetterOf (beforeOver area cards lists head memory) (r .number) (r .letter)
+        × ((r .letter ≡ letterOf (beforeOver area cards lists head memory) (r .number))
         × Left (r .number) (now (rows .entry)) (now (rows .exit)) (now (cards .entry)) (now (cards .exit)))
         ⌝ }
 {

@@ -1,5 +1,5 @@
-//! The faults that can be planted in a run: STANDIN_FAULT names one of the list below, a slip of the second implementation,
-//! or `result:FROM:TO` or `number:FROM:TO`. STANDIN_RARE=N plants it in one of N runs only.
+//! The faults that can be planted in a run: STANDIN_FAULT names one of the list below, a slip of the second implementation
+//! (in check, too), or `result:FROM:TO` or `number:FROM:TO`. STANDIN_RARE=N plants it in one of N runs only.
 
 use reference::lent::{Row, LINK_NUMBER, ROW_COUNT, ROW_LINKS, ROW_WORDS};
 use reference::slip::Slip;

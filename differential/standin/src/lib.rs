@@ -63,7 +63,7 @@ exported!(zilgwern_make(threshold: u64), |raw| {
 });
 
 exported!(zilgwern_check(letter: *mut u64), |raw| {
-    let (number, found) = Reference::default().check(&raw.read());
+    let (number, found) = Reference { slip: fault::slip() }.check(&raw.read());
     *letter = u64::from(found);
     u64::from(number)
 });

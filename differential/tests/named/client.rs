@@ -228,7 +228,7 @@ impl Client {
         assert!(self.ask(&asks).iter().all(|reply| *reply == Reply::Done));
     }
 
-    /// Check and run refuse the store by this letter and change nothing; no other rule is broken.
+    /// Check and run refuse the store by this letter, that of the first broken rule, and change nothing.
     pub fn breaks(mut self, letter: u8) {
         let before = self.lent.clone();
         assert_eq!(check(&self.lent), (5, u64::from(letter)));

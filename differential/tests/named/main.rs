@@ -3,6 +3,7 @@
 mod choices;
 mod client;
 mod examples;
+mod letters;
 mod longer_values;
 mod merge_by_weight;
 mod numbers;

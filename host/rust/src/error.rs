@@ -3,8 +3,8 @@
 use crate::VALUE_BYTES;
 use std::fmt;
 
-/// A rule of a sound store.
-#[derive(Clone, Copy, PartialEq, Eq, Debug)]
+/// A rule of a sound store. An earlier one is less, so stores can be sorted by the first rule that each breaks.
+#[derive(Clone, Copy, PartialEq, Eq, PartialOrd, Ord, Debug)]
 pub enum Rule {
     /// Threshold and cursor.
     A,
@@ -23,12 +23,12 @@ pub enum Rule {
 }
 
 impl Rule {
-    /// All seven.
+    /// All seven, in order.
     pub const ALL: [Rule; 7] = [Rule::A, Rule::B, Rule::C, Rule::D, Rule::E, Rule::F, Rule::G];
 
     pub(crate) fn of_letter(letter: u64) -> Rule {
         let found = Rule::ALL.into_iter().find(|rule| rule.letter() as u64 == letter);
-        found.expect("the library gives the letter of a broken rule")
+        found.expect("the library gives a letter from A to G with number 5")
     }
 
     /// From A to G.
@@ -86,7 +86,7 @@ pub enum Refused {
     ShortAnswer,
     /// 4: the list is over 65,536 bytes or its lengths do not end at its end.
     BrokenList,
-    /// 5: the store is not sound; this rule is broken, and perhaps others.
+    /// 5: the store is not sound; this is the first broken rule, in the order A to G.
     NotSound(Rule),
 }
 
@@ -125,7 +125,8 @@ impl fmt::Display for Refused {
             Refused::ShortAnswer => write!(out, "answer buffer under 1,024 bytes"),
             Refused::BrokenList => write!(out, "request list too long or broken"),
             Refused::NotSound(rule) => {
-                write!(out, "store not sound, rule {}: {}", rule.letter(), rule.words())
+                let (letter, words) = (rule.letter(), rule.words());
+                write!(out, "store not sound, first broken rule {letter}: {words}")
             }
         }
     }

@@ -37,10 +37,11 @@ impl<'a> Store<'a> {
     /// ```
     /// use zilgwern::{Error, Memory, Refused, Rule, Store};
     ///
+    /// // Zeros break rule A, by the threshold, and rule D, since 1,024 zeros are no memory table. The first is told.
     /// let mut memory = Memory::zeroed(16);
     /// let error = Store::open(memory.lend()).err().unwrap();
     /// assert_eq!(error.number(), 5);
-    /// assert!(matches!(error, Error::Refused(Refused::NotSound(_))));
+    /// assert_eq!(error, Error::Refused(Refused::NotSound(Rule::A)));
     /// ```
     pub fn open(pieces: Pieces<'a>) -> Result<Store<'a>, Error> {
         Store::continued(Held::Borrowed(pieces))
@@ -59,7 +60,8 @@ impl<'a> Store<'a> {
         Ok(store)
     }
 
-    /// Checks the store. What this crate does keeps it sound; memory that came from elsewhere may not be.
+    /// Checks the store. What this crate does keeps it sound; memory that came from elsewhere may not be, and is then refused
+    /// by the first broken rule.
     pub fn check(&mut self) -> Result<(), Refused> {
         let mut letter = 0;
         // SAFETY: as above; only the letter is written.
@@ -77,8 +79,8 @@ impl<'a> Store<'a> {
         View::of(&self.held.copy())
     }
 
-    /// Runs bytes as a list, with answers in a buffer: the requests served and the bytes written. The run stops before a
-    /// request when fewer than 1,024 bytes of the buffer are left.
+    /// Runs bytes as a list, with answers in a buffer: the requests served and the bytes written. The store is checked
+    /// first, as by [`Store::check`]. The run stops before a request when fewer than 1,024 bytes of the buffer are left.
     pub fn run_bytes(
         &mut self,
         list: &[u8],

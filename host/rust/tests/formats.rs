@@ -141,8 +141,8 @@ fn card_is_printed(card: &Row, name: &str) {
     assert!(words.ends_with(&format!("{} zeros", rest.len())), "{name}: {words}");
 }
 
-#[test]
-fn a_link_is_as_printed() {
+/// The store with a link that the page prints.
+fn linked() -> Memory {
     let mut memory = Memory::zeroed(32);
     let mut store = Store::make(memory.lend(), 4).unwrap();
     for keys in [&[1u64, 2, 3][..], &[4, 5], &[6], &[7]] {
@@ -157,7 +157,13 @@ fn a_link_is_as_printed() {
     for step in [Step::Moved, Step::Linked] {
         assert_eq!(store.tidy(), Ok(Some(Stepped { step, level: 0 })));
     }
-    let view = store.view();
+    memory
+}
+
+#[test]
+fn a_link_is_as_printed() {
+    let memory = linked();
+    let view = Store::open_owned(memory.clone()).unwrap().view();
     let table = &view.levels[1][0];
     let link = Link { place: 1, low: Key::LEAST, high: Key::GREATEST, number: 2 };
     assert_eq!((&table.links[..], table.weight(), view.is_due(table)), (&[link][..], 2, false));
@@ -168,6 +174,51 @@ fn a_link_is_as_printed() {
     assert_eq!(size_of::<Row>(), 34 * 8);
     assert!(PAGE.contains("| cards | P rows of 34 words |"));
     assert!(PAGE.contains("| 3 cards | `zilgwern_card *`, 34 words each |"));
+}
+
+/// A row of the table of damages: where it stands in a store file, the bytes there before and after, and the rule told.
+fn damage(row: &str) -> (usize, Vec<u8>, Vec<u8>, Rule) {
+    let cells: Vec<&str> = row.trim_matches(['|', ' ']).split(" | ").collect();
+    let [changed, from, to, _, letter] = cells[..] else { panic!("{row}") };
+    let (piece, at) = changed.split_once(", ").unwrap();
+    let (piece, number) = piece.split_once(' ').unwrap_or((piece, "0"));
+    let (number, head): (usize, usize) = (number.parse().unwrap(), 32 * (1024 + 34 * 8 + 8));
+    let starts = match piece {
+        "place" => 1024 * number,
+        "card" => 32 * 1024 + 34 * 8 * number,
+        "head" => head,
+        "memory" => head + 80,
+        _ => panic!("{row}"),
+    };
+    let (unit, at) = at.split_once(' ').unwrap();
+    // Bytes are in hexadecimal.
+    let (size, base) = if unit == "word" { (8, 10) } else { (1, 16) };
+    let bytes = |cell: &str| {
+        let number = u64::from_str_radix(cell.trim_matches('`'), base).unwrap();
+        number.to_le_bytes()[..size].to_vec()
+    };
+    let rule = Rule::ALL.into_iter().find(|rule| letter == rule.letter().to_string());
+    (starts + size * at.parse::<usize>().unwrap(), bytes(from), bytes(to), rule.unwrap())
+}
+
+#[test]
+fn the_damaged_store_gives_the_letters_as_printed() {
+    let (_, rows) =
+        PAGE.split_once("| Changed | From | To | | Letter |\n|---|---|---|---|---|\n").unwrap();
+    let damages: Vec<_> = rows.lines().take_while(|row| !row.is_empty()).map(damage).collect();
+    let mut bytes = linked().to_bytes();
+    for (at, from, to, _) in &damages {
+        let changed = &mut bytes[*at..][..from.len()];
+        assert_eq!(changed, from);
+        changed.copy_from_slice(to);
+    }
+    let refused = |bytes: &[u8]| Store::open_owned(Memory::from_bytes(bytes).unwrap()).err();
+    for (at, from, _, rule) in &damages {
+        assert_eq!(refused(&bytes), Some(Error::Refused(Refused::NotSound(*rule))));
+        bytes[*at..][..from.len()].copy_from_slice(from);
+    }
+    assert_eq!(refused(&bytes), None);
+    assert!(damages.iter().map(|(.., rule)| *rule).eq(Rule::ALL));
 }
 
 /// Where the pieces of a store file begin, and with 32 places.

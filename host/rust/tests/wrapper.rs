@@ -2,7 +2,7 @@
 
 mod common;
 
-use common::Random;
+use common::{linked, Random};
 use std::collections::BTreeMap;
 use zilgwern::*;
 
@@ -132,22 +132,9 @@ fn a_full_store_refuses_by_20_and_steps_are_told() {
     assert_eq!(store.report(), Ok(report));
 }
 
-/// A store with a link of two entries on a table of three.
-fn linked(memory: &mut Memory) {
-    let mut store = Store::make(memory.lend(), 4).unwrap();
-    for keys in [&[1u64, 3, 9][..], &[4, 8], &[6], &[7]] {
-        keys.iter().for_each(|key| store.put(*key, b"v").unwrap());
-        assert_eq!(store.flush(), Ok(true));
-    }
-    assert_eq!(store.tidy(), Ok(Some(Stepped { step: Step::Moved, level: 0 })));
-    assert_eq!(store.tidy(), Ok(Some(Stepped { step: Step::Linked, level: 0 })));
-    assert_eq!(store.tidy(), Ok(None));
-}
-
 #[test]
 fn a_wrong_number_of_a_link_breaks_rule_e_and_one_beyond_the_links_rule_g() {
-    let mut memory = Memory::zeroed(16);
-    linked(&mut memory);
+    let mut memory = linked();
     let good = memory.clone();
     // State and link count, then place, low, high and number of each link.
     assert_eq!(memory.cards[0][..6], [1, 1, 1, 0, u64::MAX, 2]);

@@ -18,7 +18,7 @@ pub type Head = [u64; 10];
 /// The bytes of a table: a place of the area, or the memory table.
 pub type Table = [u8; 1024];
 
-/// What a run gives back beside its number: letter, requests served, bytes written.
+/// What a run gives back beside its number: the letter of the first broken rule or 0, requests served, bytes written.
 pub type Outcome = [u64; 3];
 
 /// Where the five pieces of a store's memory stand, and how long they are.
@@ -77,7 +77,7 @@ impl Pieces {
         call!(self, zilgwern_make(threshold))
     }
 
-    /// Checks what is lent and writes the letter, and nothing else: 0, 1 or 5.
+    /// Checks what is lent and writes the letter of the first broken rule, or 0, and nothing else: 0, 1 or 5.
     ///
     /// # Safety
     ///

@@ -1,20 +1,24 @@
-//! Damage to sound stores: named ways to break each of the rules A to G.
+//! Damage to stores: named ways to break each of the rules A to G. What breaks links is in `damaged_links`.
+//!
+//! Several can be planted in one store, one after the other, and whatever else was done to it. Each leaves wrong what it touches,
+//! and where that takes a spot that is as it should be, it asks for one; so none mends what another of its rule has broken.
 
-use super::damaged_numbers;
+use super::damaged_links::{any_link, next_link};
 use super::random::Random;
+use super::{damaged_links, damaged_numbers};
 use crate::lent::*;
-use crate::limits::{ENTRY_BYTES, LEVELS, PLACE_BYTES, VALUE_BYTES};
+use crate::limits::{ENTRY_BYTES, LEVELS, PLACE_BYTES, TABLE_HEAD, VALUE_BYTES};
 use crate::rules::Rule;
-use crate::table::{owned, read_table, table_bytes, Entry};
+use crate::table::{owned, read_table, table_bytes, Entry, Key};
 
-/// Damages a store, or gives none where it has nothing to damage in this way.
+/// Damages memory of fitting sizes, or gives none and leaves it as it was where it has nothing to damage in this way.
 pub type Plant = fn(&mut Lent, &mut Random) -> Option<()>;
 
 /// A way to break one rule.
 pub struct Damage {
     pub name: &'static str,
     pub rule: Rule,
-    /// Whether no other rule is broken with it.
+    /// Whether no other rule is broken with it in a sound store.
     pub alone: bool,
     pub plant: Plant,
 }
@@ -23,13 +27,13 @@ pub(super) const fn alone(rule: Rule, name: &'static str, plant: Plant) -> Damag
     Damage { name, rule, alone: true, plant }
 }
 
-const fn mixed(rule: Rule, name: &'static str, plant: Plant) -> Damage {
+pub(super) const fn mixed(rule: Rule, name: &'static str, plant: Plant) -> Damage {
     Damage { name, rule, alone: false, plant }
 }
 
 /// Every rule in several ways.
 pub fn damages() -> impl Iterator<Item = &'static Damage> {
-    DAMAGES.iter().chain(damaged_numbers::DAMAGES)
+    DAMAGES.iter().chain(damaged_links::DAMAGES).chain(damaged_numbers::DAMAGES)
 }
 
 const DAMAGES: &[Damage] = &[
@@ -44,18 +48,19 @@ const DAMAGES: &[Damage] = &[
     }),
     mixed(Rule::B, "live and in no list", |lent, random| {
         let place = any_place(lent, random, STATE_FREE)?;
+        level_of(lent, place).is_none().then_some(())?;
         set_card(lent, place, ROW_STATE, STATE_LIVE)
     }),
     alone(Rule::B, "listed and free", |lent, random| {
-        let place = any_place(lent, random, STATE_LIVE)?;
+        let place = any_listed(lent, random)?;
         set_card(lent, place, ROW_STATE, STATE_FREE)
     }),
     alone(Rule::B, "listed and frozen", |lent, random| {
-        let place = any_place(lent, random, STATE_LIVE)?;
+        let place = any_listed(lent, random)?;
         set_card(lent, place, ROW_STATE, STATE_FROZEN)
     }),
     alone(Rule::B, "listed twice", |lent, random| {
-        let place = any_place(lent, random, STATE_LIVE)?;
+        let place = any_listed(lent, random)?;
         append_item(lent, random, place as u16)
     }),
     alone(Rule::B, "frozen and listed", |lent, random| {
@@ -111,69 +116,6 @@ const DAMAGES: &[Damage] = &[
         Some(())
     }),
     alone(Rule::D, "damaged memory", |lent, random| damage_table(&mut lent.memory, random)),
-    alone(Rule::E, "low above high", |lent, random| {
-        let (place, word) = any_link(lent, random)?;
-        let (low, high) = (lent.cards[place][word + LINK_LOW], lent.cards[place][word + LINK_HIGH]);
-        set_card(lent, place, word + LINK_LOW, high)?;
-        set_card(lent, place, word + LINK_HIGH, low)?;
-        (low < high).then_some(())
-    }),
-    mixed(Rule::E, "more links than the threshold", |lent, random| {
-        let (place, _) = any_link(lent, random)?;
-        let count = lent.head[HEAD_THRESHOLD] + 1;
-        set_card(lent, place, ROW_COUNT, count)
-    }),
-    mixed(Rule::E, "link count of 64 bits", |lent, random| {
-        let (place, _) = any_link(lent, random)?;
-        set_card(lent, place, ROW_COUNT, u64::MAX)
-    }),
-    mixed(Rule::E, "link on level 0", |lent, random| {
-        let (from, word) = any_link(lent, random)?;
-        let link = lent.cards[from][word..word + LINK_WORDS].to_vec();
-        let on = usize::from(lent.lists[0]);
-        lent.cards[on][ROW_LINKS..ROW_LINKS + LINK_WORDS].copy_from_slice(&link);
-        set_card(lent, on, ROW_COUNT, 1)?;
-        (lent.head[HEAD_LENGTHS] > 0).then_some(())
-    }),
-    mixed(Rule::E, "link to a live place", |lent, random| {
-        let (place, word) = any_link(lent, random)?;
-        set_card(lent, place, word, place as u64)
-    }),
-    mixed(Rule::E, "link to no place", |lent, random| {
-        let (place, word) = any_link(lent, random)?;
-        let nowhere = *random.pick(&[lent.cards.len() as u64, 1 << 32, u64::MAX]);
-        set_card(lent, place, word, nowhere)
-    }),
-    alone(Rule::E, "one slice twice on a table", |lent, random| {
-        let (place, word) = any_link(lent, random)?;
-        let count = lent.cards[place][ROW_COUNT];
-        let link = lent.cards[place][word..word + LINK_WORDS].to_vec();
-        let next = ROW_LINKS + LINK_WORDS * count as usize;
-        lent.cards[place].get_mut(next..next + LINK_WORDS)?.copy_from_slice(&link);
-        set_card(lent, place, ROW_COUNT, count + 1)?;
-        (count < lent.head[HEAD_THRESHOLD]).then_some(())
-    }),
-    mixed(Rule::E, "one place on two levels", |lent, random| {
-        let (from, word) = any_link(lent, random)?;
-        let link = lent.cards[from][word..word + LINK_WORDS].to_vec();
-        let on = any_place(lent, random, STATE_LIVE)?;
-        let count = lent.cards[on][ROW_COUNT];
-        let fits =
-            level_of(lent, on)? != level_of(lent, from)? && count < lent.head[HEAD_THRESHOLD];
-        let next = ROW_LINKS + LINK_WORDS * count as usize;
-        lent.cards[on].get_mut(next..next + LINK_WORDS)?.copy_from_slice(&link);
-        set_card(lent, on, ROW_COUNT, count + 1)?;
-        fits.then_some(())
-    }),
-    alone(Rule::E, "link without an entry", |lent, random| {
-        let (place, word) = any_link(lent, random)?;
-        let (low, high) = (lent.cards[place][word + LINK_LOW], lent.cards[place][word + LINK_HIGH]);
-        let frozen = lent.cards[place][word] as usize;
-        let shown = read_table(lent.place(frozen), 1)?;
-        let least = shown.iter().map(|(key, _)| *key).find(|key| (low..=high).contains(key))?;
-        set_card(lent, place, word + LINK_HIGH, least.checked_sub(1)?)?;
-        (low < least).then_some(())
-    }),
     alone(Rule::F, "frozen without a link", |lent, random| {
         let free = any_place(lent, random, STATE_FREE)?;
         let live = any_place(lent, random, STATE_LIVE)?;
@@ -182,29 +124,20 @@ const DAMAGES: &[Damage] = &[
     }),
     alone(Rule::F, "last link taken away", |lent, random| {
         let (place, word) = any_link(lent, random)?;
-        let frozen = lent.cards[place][word];
-        let alone = lent.cards[place][ROW_COUNT] == 1;
+        let frozen = lent.cards[place][word + LINK_PLACE];
+        let links = (0..lent.cards.len()).flat_map(|place| lent.links(place));
+        let named = links.filter(|link| link[LINK_PLACE] == frozen).count();
+        ((lent.cards[place][ROW_COUNT], named) == (1, 1)).then_some(())?;
         lent.cards[place][ROW_COUNT..].fill(0);
-        let mut links = (0..lent.cards.len()).flat_map(|place| lent.links(place));
-        let named = links.any(|link| link[LINK_PLACE] == frozen);
-        (alone && !named).then_some(())
+        Some(())
     }),
     alone(Rule::G, "two tables in the wrong order", |lent, random| {
         let level = 1 + random.below(3);
+        let [first, second, ..] = *lent.list(level) else { return None };
+        (least_own(lent, first)? < least_own(lent, second)?).then_some(())?;
         let start = level * lent.cards.len();
         lent.lists.swap(start, start + 1);
-        (lent.head[HEAD_LENGTHS + level] > 1).then_some(())
-    }),
-    mixed(Rule::G, "a span that ends where the next begins", |lent, random| {
-        let (place, word) = any_link(lent, random)?;
-        let level = level_of(lent, place)?;
-        let list =
-            &lent.lists[level * lent.cards.len()..][..lent.head[HEAD_LENGTHS + level] as usize];
-        let position = list.iter().position(|item| usize::from(*item) == place)?;
-        let next = usize::from(*list.get(position + 1)?);
-        let own = read_table(lent.place(next), 1)?.first()?.0;
-        let start = lent.links(next).map(|link| link[LINK_LOW]).fold(own, u64::min);
-        set_card(lent, place, word + LINK_HIGH, start)
+        Some(())
     }),
     alone(Rule::G, "mark flag above 1", |lent, random| {
         let flag = HEAD_MARKS + 2 * random.below(2);
@@ -218,15 +151,15 @@ const DAMAGES: &[Damage] = &[
     }),
     alone(Rule::G, "word beyond a card's links", |lent, random| {
         let place = random.below(lent.cards.len());
-        let first = ROW_LINKS + LINK_WORDS * lent.cards[place][ROW_COUNT] as usize;
-        *lent.cards[place][first..].last_mut()? = 1;
-        Some(())
+        next_link(lent, place)?;
+        set_card(lent, place, ROW_WORDS - 1, 1)
     }),
     alone(Rule::G, "item beyond a list's length", |lent, random| {
         let level = random.below(4);
+        (lent.list(level).len() < lent.cards.len()).then_some(())?;
         let last = (level + 1) * lent.cards.len() - 1;
         lent.lists[last] = 1 + random.below(9) as u16;
-        (lent.head[HEAD_LENGTHS + level] < lent.cards.len() as u64).then_some(())
+        Some(())
     }),
 ];
 
@@ -240,28 +173,28 @@ pub(super) fn set_card(lent: &mut Lent, place: usize, word: usize, value: u64) -
     Some(())
 }
 
-fn any_place(lent: &Lent, random: &mut Random, state: u64) -> Option<usize> {
+pub(super) fn any_place(lent: &Lent, random: &mut Random, state: u64) -> Option<usize> {
     let places: Vec<usize> =
         (0..lent.cards.len()).filter(|place| lent.cards[*place][ROW_STATE] == state).collect();
     (!places.is_empty()).then(|| *random.pick(&places))
 }
 
-/// The level whose list names a place.
-fn level_of(lent: &Lent, place: usize) -> Option<usize> {
-    (0..LEVELS).find(|level| {
-        let list = &lent.lists[level * lent.cards.len()..];
-        let length = lent.head[HEAD_LENGTHS + level] as usize;
-        list[..length].iter().any(|item| usize::from(*item) == place)
-    })
+/// A live place that a list names.
+fn any_listed(lent: &Lent, random: &mut Random) -> Option<usize> {
+    let place = any_place(lent, random, STATE_LIVE)?;
+    level_of(lent, place).map(|_| place)
 }
 
-/// A card with links and the first word of one of them.
-pub(super) fn any_link(lent: &Lent, random: &mut Random) -> Option<(usize, usize)> {
-    let linked = |place: &usize| lent.cards[*place][ROW_COUNT] > 0;
-    let places: Vec<usize> = (0..lent.cards.len()).filter(linked).collect();
-    let place = *places.get(random.below(places.len().max(1)))?;
-    let link = random.below(lent.cards[place][ROW_COUNT] as usize);
-    Some((place, ROW_LINKS + LINK_WORDS * link))
+/// The level whose list names a place.
+pub(super) fn level_of(lent: &Lent, place: usize) -> Option<usize> {
+    (0..LEVELS).find(|level| lent.list(*level).iter().any(|item| usize::from(*item) == place))
+}
+
+/// The least own key of the table in a place, or none where there is no such place or table.
+pub(super) fn least_own(lent: &Lent, item: u16) -> Option<Key> {
+    let place = usize::from(item);
+    let shown = (place < lent.cards.len()).then(|| read_table(lent.place(place), 1))??;
+    Some(shown.first()?.0)
 }
 
 fn append_item(lent: &mut Lent, random: &mut Random, item: u16) -> Option<()> {
@@ -283,11 +216,9 @@ fn lengthen_value(bytes: &mut [u8]) -> Option<()> {
 
 /// Breaks a table of at least two entries in one of several ways.
 fn damage_table(bytes: &mut [u8], random: &mut Random) -> Option<()> {
-    let length = usize::from(u16::from_le_bytes([bytes[0], bytes[1]]));
-    let second = 8 + usize::from(u16::from_le_bytes([bytes[8], bytes[9]]));
-    if bytes[4] < 2 || length >= PLACE_BYTES {
-        return None;
-    }
+    read_table(bytes, 2)?;
+    // Where the second entry begins; the longest table ends before its place does.
+    let second = TABLE_HEAD + usize::from(bytes[TABLE_HEAD]);
     match random.below(11) {
         0 => bytes[0] ^= 1,
         1 => bytes[2] = 31,

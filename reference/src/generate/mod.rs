@@ -1,11 +1,13 @@
-//! Seeded generators: request lists, arbitrary sound stores, broken lists and damaged stores.
+//! Seeded generators: request lists, arbitrary sound stores, broken lists, damaged stores and the letters they are refused by.
 
 pub mod broken;
 pub mod damage;
+mod damaged_links;
 mod damaged_numbers;
 pub mod features;
 pub mod full;
 pub mod keys;
+pub mod plan;
 pub mod planted;
 pub mod profile;
 pub mod random;

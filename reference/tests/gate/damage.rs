@@ -1,4 +1,4 @@
-//! Damaged stores: each named damage breaks its rule, and the run is refused with number 5.
+//! Damaged stores: each named damage breaks its rule, and check and run give 5 and the letter of the first broken one.
 
 use crate::common::announce;
 use reference::generate::damage::damages;
@@ -6,20 +6,20 @@ use reference::generate::keys::Keys;
 use reference::generate::planted::planted;
 use reference::generate::profile::{Source, PROFILES};
 use reference::generate::random::Random;
-use reference::generate::requests::report;
 use reference::implementation::Reference;
 use reference::lent::{Lent, HEAD_CURSOR, HEAD_LENGTHS, LINK_WORDS, ROW_LINKS};
+use reference::letters::said;
 use reference::limits::{ENTRY_BYTES, TABLE_HEAD};
 use reference::reached::Reached;
 use reference::rules::{check, Broken, Rule};
-use reference::run::run;
 use reference::store::Store;
 use reference::trial::{Eyes, Trial};
 use std::collections::BTreeSet;
 
 const KEYS: [Keys; 3] = [Keys::Dense(300), Keys::Wide(400), Keys::Edges(100)];
 
-fn planted_lent(random: &mut Random, number: usize) -> Lent {
+/// A planted store; sizes and key sets in turn.
+pub fn planted_lent(random: &mut Random, number: usize) -> Lent {
     let places = [16, 17, 40, 64][number % 4];
     planted(random, places, KEYS[number % 3]).encode()
 }
@@ -53,7 +53,7 @@ fn every_damage_breaks_its_rule() {
             if damage.alone {
                 assert_eq!(verdict.broken, [damage.rule].into(), "{}", damage.name);
             }
-            assert_refused(&lent, damage.name);
+            assert_refused(&lent, &verdict.broken, damage.name);
             reached.count(format!("{:?}: {}", damage.rule, damage.name));
         }
     }
@@ -64,11 +64,9 @@ fn every_damage_breaks_its_rule() {
     }
 }
 
-fn assert_refused(lent: &Lent, name: &str) {
-    let mut after = lent.clone();
-    let outcome = run(&mut after, &report(), 1024);
-    assert_eq!((outcome.number, outcome.served, outcome.answers.len()), (5, 0, 0), "{name}");
-    assert_eq!(&after, lent, "{name}");
+fn assert_refused(lent: &Lent, broken: &Broken, name: &str) {
+    let first = broken.first().expect("a rule is broken");
+    assert_eq!(said(&Reference::default(), lent), Ok((5, first.letter())), "{name}");
 }
 
 #[test]
@@ -99,7 +97,7 @@ fn the_set_names_all_broken_rules() {
 }
 
 /// Changes one word, item or byte anywhere.
-fn disturb(lent: &mut Lent, random: &mut Random) {
+pub fn disturb(lent: &mut Lent, random: &mut Random) {
     let small = random.below(20) as u64;
     let value = *random.pick(&[0, 1, 2, 3, small, u64::MAX, 1 << 40]);
     match random.below(6) {
@@ -129,8 +127,9 @@ fn disturbed_stores_are_refused_or_served_right() {
     for number in 0..6000 {
         let mut lent = planted_lent(&mut random, number);
         disturb(&mut lent, &mut random);
-        if check(&lent).number != 0 {
-            assert_refused(&lent, "disturbed");
+        let verdict = check(&lent);
+        if verdict.number != 0 {
+            assert_refused(&lent, &verdict.broken, "disturbed");
             reached.count("refused");
             continue;
         }

@@ -1,14 +1,19 @@
-//! Every planted slip is caught: by the judge alone where demand 3 can see it, and by comparison.
+//! Every planted slip is caught: by the judge alone where demand 3 can see it, and by comparison. Slips in the letter show on
+//! damaged stores alone, and are also caught by the letter that the plan of the damages says.
 
 use crate::common::{announce, on_two_threads};
 use reference::generate::keys::Keys;
+use reference::generate::plan::Plan;
 use reference::generate::planted::planted;
 use reference::generate::profile::{Source, PROFILES};
 use reference::generate::random::Random;
-use reference::implementation::Reference;
+use reference::generate::requests::report;
+use reference::implementation::{Implementation, Reference};
 use reference::lent::Lent;
+use reference::letters::{compare_with_plan, compare_with_reference};
+use reference::limits::ANSWER_ROOM;
 use reference::slip::Slip;
-use reference::trial::{Eyes, Trial};
+use reference::trial::{compare, Eyes, Trial, UNTOUCHED};
 
 /// Slips that the judge need not see, and why; a comparison has to catch them.
 const UNSEEN_BY_JUDGE: &[(Slip, &str)] = &[
@@ -18,6 +23,9 @@ const UNSEEN_BY_JUDGE: &[(Slip, &str)] = &[
     (Slip::StopWithRoomLeft, "demand 3 takes the requests served as they are"),
     (Slip::FreedPlaceCleared, "demand 3 does not measure the bytes of free places"),
     (Slip::LongEntryUnsound, "demand 3 does not measure runs that are refused"),
+    (Slip::MemoryJudgedBeforePlaces, "demand 3 does not measure runs that are refused"),
+    (Slip::FrozenJudgedWithLinks, "demand 3 does not measure runs that are refused"),
+    (Slip::LastBrokenGiven, "demand 3 does not measure runs that are refused"),
     (
         Slip::CursorAtTakenPlace,
         "the place just taken is not free, so the next one taken is the same",
@@ -33,7 +41,14 @@ const UNSEEN_BY_BOOK: &[(Slip, &str)] = &[
     (Slip::StopWithRoomLeft, "the judge takes the requests served as they are"),
     (Slip::FreedPlaceCleared, "the judge does not know the bytes of free places"),
     (Slip::LongEntryUnsound, "the judge follows no run that is refused"),
+    (Slip::MemoryJudgedBeforePlaces, "the judge follows no run that is refused"),
+    (Slip::FrozenJudgedWithLinks, "the judge follows no run that is refused"),
+    (Slip::LastBrokenGiven, "the judge follows no run that is refused"),
 ];
+
+/// Slips in the letter, which show on damaged stores alone.
+const IN_THE_LETTER: [Slip; 3] =
+    [Slip::MemoryJudgedBeforePlaces, Slip::FrozenJudgedWithLinks, Slip::LastBrokenGiven];
 
 /// Histories that a mutant may live through before it counts as not caught.
 const HISTORIES: u64 = 1500;
@@ -47,13 +62,19 @@ struct Catch {
     words: String,
 }
 
+/// Keys and number of places, in turn.
+fn shape(number: u64) -> (Keys, usize) {
+    let turn = number as usize;
+    let keys = [Keys::Dense(300), Keys::Wide(500), Keys::Edges(150)][turn % 3];
+    (keys, [16, 24, 40, 64, 96][turn / 3 % 5])
+}
+
 /// Begins a history: mostly short ones on planted stores, where a few tidies show most.
 /// Gives the history, its requests and how many runs it has.
 fn history(subject: &Reference, eyes: Eyes, number: u64) -> (Trial<'_>, Source, usize) {
     let mut random = Random::new(7_000_000 + number);
     let turn = number as usize;
-    let keys = [Keys::Dense(300), Keys::Wide(500), Keys::Edges(150)][turn % 3];
-    let places = [16, 24, 40, 64, 96][turn / 3 % 5];
+    let (keys, places) = shape(number);
     if number % 10 == 9 {
         let threshold = 1 + number / 10 % 8;
         let trial = Trial::of_new_store(subject, eyes, Lent::zeroed(places), threshold);
@@ -65,7 +86,24 @@ fn history(subject: &Reference, eyes: Eyes, number: u64) -> (Trial<'_>, Source, 
     (Trial::of_sound_store(subject, eyes, lent), Source::new(profile, keys, number), 24)
 }
 
-/// Runs a mutant through histories until these eyes find something.
+/// A store with planned damage.
+fn damaged(number: u64) -> (Lent, Plan) {
+    let mut random = Random::new(8_000_000 + number);
+    let (keys, places) = shape(number);
+    let mut lent = planted(&mut random, places, keys).encode();
+    let plan = Plan::plant(&mut lent, &mut random);
+    (lent, plan)
+}
+
+/// Compares a mutant's run on lent memory of any content.
+fn compare_run(subject: &Reference, lent: Lent) -> Result<(), String> {
+    let mut after = lent.clone();
+    let mut answers = vec![UNTOUCHED; ANSWER_ROOM];
+    let ran = subject.run(&mut after, &report(), &mut answers);
+    compare(lent, &report(), &ran, &answers, &after)
+}
+
+/// Runs a mutant through histories until these eyes find something; the comparison is also shown a damaged store with each.
 fn catch(slip: Slip, eyes: Eyes) -> Option<Catch> {
     let subject = Reference { slip: Some(slip) };
     let need_not_see = match eyes {
@@ -84,6 +122,11 @@ fn catch(slip: Slip, eyes: Eyes) -> Option<Catch> {
             }
         }
         requests += trial.served;
+        if eyes == Eyes::Comparison {
+            if let Err(words) = compare_run(&subject, damaged(number).0) {
+                return Some(Catch { requests, words });
+            }
+        }
     }
     None
 }
@@ -119,6 +162,31 @@ fn every_mutant_is_caught() {
         assert!(by_judge, "{slip:?} is not caught by the judge");
         let by_book = whole_book.is_some() || unseen(*slip, UNSEEN_BY_BOOK);
         assert!(by_book, "{slip:?} is not caught by the whole book");
+    }
+}
+
+/// The first of so many damaged stores on which something is found.
+fn first_found(found: impl Fn(Lent, Plan) -> Result<(), String>) -> Option<u64> {
+    let fails = |number: &u64| {
+        let (lent, plan) = damaged(*number);
+        found(lent, plan).is_err()
+    };
+    (0..HISTORIES).find(fails)
+}
+
+#[test]
+fn slips_in_the_letter_are_caught_by_run_check_and_plan() {
+    announce("first damaged store that shows it in       run       check        plan");
+    for slip in IN_THE_LETTER {
+        let subject = Reference { slip: Some(slip) };
+        let stores = [
+            first_found(|lent, _| compare_run(&subject, lent)),
+            first_found(|lent, _| compare_with_reference(&subject, &lent)),
+            first_found(|lent, plan| compare_with_plan(&subject, &lent, &plan)),
+        ];
+        let words = stores.map(|store| format!("{:>12}", store.map_or(-1, |it| it as i64)));
+        announce(&format!("{:<30}{}", format!("{slip:?}"), words.concat()));
+        assert!(stores.iter().all(Option::is_some), "{slip:?} is not caught");
     }
 }
 

@@ -10,7 +10,8 @@ use Rattle.book.specs.Pieces.{lent}
 use Rattle.read.specs.Shown.{Kept}
 use Rattle.serve_list.specs.Ran.{ran, requestsOf}
 use Rattle.store_run.specs.Early.{earlyNumber}
-use Rattle.store_run.proofs.Runs.{Passed, passed, early-not-unsound, run-early, run-unsound, run-served, refused-ran, check-sound, check-unsound, check-five, letter-none}
+use Rattle.ldc.proofs.Lent.Letters.{letter-none}
+use Rattle.store_run.proofs.Runs.{Passed, passed, early-not-unsound, run-early, run-unsound, run-served, refused-ran, check-sound, check-unsound, check-five}
 use Rattle.store_run.proofs.run.Statement.{statement}
 use Rattle.store_run.proofs.run.Tie as tie
 
@@ -76,7 +77,7 @@ returns-2 c =
     let says = d .check .ensures .number-is in
     let five = check-five m z n says (c .before .if2 .taken) in (
       refused-ran m (list-in k) (answer-in k) unsound _ _ _ (e .0) (e .1 .1 .0) (e .1 .1 .1) (run-unsound m (list-in k) (answer-in k) (past i) (check-unsound m z n says (c .before .if2 .taken))),
-      rw (e .0, e .1 .0) (rw five at (d .check .ensures .letter-of)),
+      rw (e .0, e .1 .0) (rw five at (d .check .ensures .letter-is)),
     )
 
 rows-wide-requires : tie.Need-rows-wide-requires

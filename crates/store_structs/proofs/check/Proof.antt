@@ -56,7 +56,7 @@ use Rattle.store_cards.proofs.load.Symbol as load-def
 use Rattle.store_cards.proofs.load.Symbol.{name as #store-cards·load}
 use Rattle.store_cards.proofs.load.Met as load-thm
 use Rattle.ldc.specs.Lent.{Lent, sizesGood}
-use Rattle.ldc.specs.Run.{wrongSizes, LetterOf}
+use Rattle.ldc.specs.Run.{wrongSizes, letterOf}
 use Rattle.book.specs.Pieces.{lent}
 use Rattle.check_store.specs.Answer.{Answers}
 use Rattle.check_store.specs.declared.Checked.{Checked}
@@ -132,7 +132,7 @@ module _ {M : Type 1} (𝓤 : URA M) (H : Heap 𝓤) (A : Atoms 𝓤) (W : Given
 
   -- what is said at exit
   abbrev Claim : Checked → List (List ℕ) → Type 0
-  Claim r L′ = (r .number ≡ checkOver (x₃ .now) held) × (LetterOf held (r .number) (r .letter) × (L′ ≡ rowsAfter (r .number) (x₃ .now) (x₂ .now)))
+  Claim r L′ = (r .number ≡ checkOver (x₃ .now) held) × ((r .letter ≡ letterOf held (r .number)) × (L′ ≡ rowsAfter (r .number) (x₃ .now) (x₂ .now)))
 
   abbrev Tokens : Item 𝓤
   Tokens = ‵ (flft κ₀ q₀) ⊛ ‵ (flft κ₁ q₁) ⊛ ‵ (flft κ₂ q₂) ⊛ ‵ (flft κ₃ q₃) ⊛ ‵ (flft κ₄ q₄) ⊛ ‵ (flft κ₅ q₅) ⊛ ‵ ftrue

@@ -55,7 +55,7 @@ use Rattle.store_cards.proofs.unload.Symbol as unload-def
 use Rattle.store_cards.proofs.unload.Symbol.{name as #store-cards·unload}
 use Rattle.store_cards.proofs.unload.Met as unload-thm
 use Rattle.ldc.specs.Lent.{Lent as StoreLent}
-use Rattle.ldc.specs.Run.{accepted, run as served, LetterOf}
+use Rattle.ldc.specs.Run.{accepted, run as served, letterOf}
 use Rattle.book.specs.Pieces.{lent}
 use Rattle.serve_list.specs.Ran.{ran}
 use Rattle.store_run.specs.declared.Ran.{Ran}
@@ -140,7 +140,7 @@ module _ {M : Type 1} (𝓤 : URA M) (H : Heap 𝓤) (A : Atoms 𝓤) (W : Given
 
   -- what is said at exit
   abbrev Claim : Ran → List ℕ → List Card → List (List ℕ) → List ℕ → List ℕ → List ℕ → List ℕ → Type 0
-  Claim r A′ C′ L′ I′ H′ M′ N′ = (ran (r .number) (r .served) (r .written) (lent A′ (rowsOf C′) I′ H′ M′) N′ ≡ runOver (x₃ .now) held (x₇ .now) (x₈ .now)) × (LetterOf held (r .number) (r .letter) × Left (r .number) (x₃ .now) L′ (x₂ .now) C′)
+  Claim r A′ C′ L′ I′ H′ M′ N′ = (ran (r .number) (r .served) (r .written) (lent A′ (rowsOf C′) I′ H′ M′) N′ ≡ runOver (x₃ .now) held (x₇ .now) (x₈ .now)) × ((r .letter ≡ letterOf held (r .number)) × Left (r .number) (x₃ .now) L′ (x₂ .now) C′)
 
   abbrev Tokens : Item 𝓤
   Tokens = ‵ (flft κ₀ q₀) ⊛ ‵ (flft κ₁ q₁) ⊛ ‵ (flft κ₂ q₂) ⊛ ‵ (flft κ₃ q₃) ⊛ ‵ (flft κ₄ q₄) ⊛ ‵ (flft κ₅ q₅) ⊛ ‵ (flft κ₆ q₆) ⊛ ‵ (flft κ₇ q₇) ⊛ ‵ ftrue
@@ -305,7 +305,7 @@ module _ {M : Type 1} (𝓤 : URA M) (H : Heap 𝓤) (A : Atoms 𝓤) (W : Given
   N-of d = d .1 .1 .1 .1 .1 .1 .1 .0
 
   abbrev Said : Done → Type 0
-  Said d = (ran (d .0 .number) (d .0 .served) (d .0 .written) (lent (A-of d) (L-of d) (I-of d) (H-of d) (M-of d)) (N-of d) ≡ served held (x₇ .now) (x₈ .now)) × LetterOf held (d .0 .number) (d .0 .letter)
+  Said d = (ran (d .0 .number) (d .0 .served) (d .0 .written) (lent (A-of d) (L-of d) (I-of d) (H-of d) (M-of d)) (N-of d) ≡ served held (x₇ .now) (x₈ .now)) × (d .0 .letter ≡ letterOf held (d .0 .number))
 
   abbrev Told : Done → Val → Type 0
   Told d w = Said d × ((length (A-of d) ≡ length (x₁ .now)) × ((length (L-of d) ≡ length shown) × ((length (I-of d) ≡ length (x₄ .now)) × ((length (N-of d) ≡ length (x₈ .now)) × (Is K.the-row (d .0) (w ∷ []))))))

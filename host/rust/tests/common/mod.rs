@@ -1,4 +1,7 @@
-//! A small seeded generator of numbers.
+//! A small seeded generator of numbers, and a store with a link.
+#![allow(dead_code)]
+
+use zilgwern::{Memory, Step, Stepped, Store};
 
 pub struct Random(pub u64);
 
@@ -8,4 +11,19 @@ impl Random {
             self.0.wrapping_mul(6_364_136_223_846_793_005).wrapping_add(1_442_695_040_888_963_407);
         (self.0 >> 33) % bound
     }
+}
+
+/// A store of 16 places: place 0 on level 1 has three entries and a link to place 1, which is frozen and has two; places 2 and 3
+/// are on level 0, and no tidy is due.
+pub fn linked() -> Memory {
+    let mut memory = Memory::zeroed(16);
+    let mut store = Store::make(memory.lend(), 4).unwrap();
+    for keys in [&[1u64, 3, 9][..], &[4, 8], &[6], &[7]] {
+        keys.iter().for_each(|key| store.put(*key, b"v").unwrap());
+        assert_eq!(store.flush(), Ok(true));
+    }
+    assert_eq!(store.tidy(), Ok(Some(Stepped { step: Step::Moved, level: 0 })));
+    assert_eq!(store.tidy(), Ok(Some(Stepped { step: Step::Linked, level: 0 })));
+    assert_eq!(store.tidy(), Ok(None));
+    memory
 }
