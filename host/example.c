@@ -1,13 +1,14 @@
 /*
  * Document 01's example in C: makes a store of 32 places with threshold 4, puts "A" under key 5, looks it up, and prints the
- * answer bytes in hexadecimal. Then breaks two rules of a sound store, and prints number and letter of a check before each is
- * mended and at the end.
+ * answer bytes in hexadecimal. Breaks two rules of a sound store, and prints number and letter of a check before each is mended
+ * and at the end. Then saves the store, opens it over an area of twice the places, and looks the key up there.
  */
 #include "zilgwern.h"
 
 #include <stdio.h>
+#include <string.h>
 
-enum { PLACES = 32, THRESHOLD = 4 };
+enum { PLACES = 32, THRESHOLD = 4, MORE_PLACES = 2 * PLACES };
 
 /* The lent memory. Static, since a large store is too much for a stack. */
 static uint8_t area[ZILGWERN_AREA_BYTES(PLACES)];
@@ -15,6 +16,13 @@ static zilgwern_card cards[PLACES];
 static uint16_t lists[ZILGWERN_LIST_ITEMS(PLACES)];
 static zilgwern_head head;
 static uint8_t memory[ZILGWERN_MEMORY_BYTES];
+
+/* The memory of the larger store that the saved one goes on in, and the cards that opening works on. */
+static uint8_t more_area[ZILGWERN_AREA_BYTES(MORE_PLACES)];
+static zilgwern_card more_cards[MORE_PLACES], working[MORE_PLACES];
+static uint16_t more_lists[ZILGWERN_LIST_ITEMS(MORE_PLACES)];
+static zilgwern_head more_head;
+static uint8_t more_memory[ZILGWERN_MEMORY_BYTES];
 
 static const uint8_t requests[] = {
     13, 0, ZILGWERN_PUT, 0, 5, 0, 0, 0, 0, 0, 0, 0, 'A',  /* put "A" under key 5 */
@@ -48,6 +56,36 @@ static void break_and_mend(void)
     print_check();
 }
 
+static void print_bytes(const uint8_t *bytes, uint64_t count)
+{
+    for (uint64_t byte = 0; byte < count; byte++) {
+        printf("%s%02X", byte == 0 ? "" : " ", (unsigned)bytes[byte]);
+    }
+    printf("\n");
+}
+
+/* Prints the length of the saved book and the number that opening gives over the larger area, which holds the places' bytes, and
+ * then the look-up's answer there. */
+static void save_and_open(void)
+{
+    static uint8_t book[ZILGWERN_SAVED_BYTES(PLACES)];
+    const uint8_t *look_up = requests + 13;
+    uint8_t answer[ZILGWERN_ANSWER_ROOM];
+    zilgwern_saved saved;
+    zilgwern_outcome outcome;
+    uint64_t number, letter;
+
+    zilgwern_save(area, sizeof area, cards, PLACES, lists, ZILGWERN_LIST_ITEMS(PLACES), &head, memory, book, sizeof book,
+                  &saved);
+    memcpy(more_area, area, sizeof area);
+    number = zilgwern_open(more_area, sizeof more_area, more_cards, MORE_PLACES, more_lists, ZILGWERN_LIST_ITEMS(MORE_PLACES),
+                           &more_head, more_memory, book, (size_t)saved.length, working, MORE_PLACES, &letter);
+    printf("%llu bytes, %llu\n", (unsigned long long)saved.length, (unsigned long long)number);
+    zilgwern_run(more_area, sizeof more_area, more_cards, MORE_PLACES, more_lists, ZILGWERN_LIST_ITEMS(MORE_PLACES),
+                 &more_head, more_memory, look_up, sizeof requests - 13, answer, sizeof answer, &outcome);
+    print_bytes(answer, outcome.written);
+}
+
 int main(void)
 {
     uint8_t answer[2 * ZILGWERN_ANSWER_ROOM];
@@ -65,10 +103,8 @@ int main(void)
                 (unsigned long long)outcome.letter);
         return 1;
     }
-    for (uint64_t byte = 0; byte < outcome.written; byte++) {
-        printf("%s%02X", byte == 0 ? "" : " ", (unsigned)answer[byte]);
-    }
-    printf("\n");
+    print_bytes(answer, outcome.written);
     break_and_mend();
+    save_and_open();
     return 0;
 }

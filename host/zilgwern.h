@@ -3,9 +3,10 @@
  *
  * For recorders written in C or C++ that link target/staticlib/libstore.a (written by `rt staticlib store`).
  *
- * The library keeps nothing of its own between calls, allocates nothing and opens nothing; it calls memcpy and memset. A
- * store is the five pieces of memory below and nothing else: to keep a store, keep these bytes; to copy it, copy them. Any
- * contents are taken: what is no sound store is refused by number, and a refused call changes nothing.
+ * The library keeps nothing of its own between calls, allocates nothing and opens no files; it calls memcpy and memset. A
+ * store is the five pieces of memory below and nothing else: to copy a store, copy them; to keep one while the van is switched
+ * off, keep the area and the bytes that zilgwern_save writes. Any contents are taken: what is no sound store is refused by
+ * number, and a refused call changes nothing.
  *
  * Who calls must see to three things, which the library can't check:
  *   - every pointer is good for as many elements as its count says, and aligned as its type is;
@@ -51,6 +52,14 @@ ZILGWERN_STATIC_ASSERT(ZILGWERN_REPLY_BYTES <= ZILGWERN_ANSWER_ROOM, "every repl
 /* Bytes of the area of a store, and items of its four level lists together. */
 #define ZILGWERN_AREA_BYTES(places) ((size_t)(places) * ZILGWERN_PLACE_BYTES)
 #define ZILGWERN_LIST_ITEMS(places) ((size_t)(places) * ZILGWERN_LEVELS)
+
+/* The length of the longest saved book: what stands before the cards, P cards with all their links, each place in a list, and a
+ * full memory table. A buffer of so many bytes is long enough to save any store of P places. */
+#define ZILGWERN_SAVED_LINK_BYTES 20
+#define ZILGWERN_SAVED_CARD_BYTES (4 + ZILGWERN_CARD_LINKS * ZILGWERN_SAVED_LINK_BYTES)
+#define ZILGWERN_SAVED_BYTES(places)                                                                                          \
+    (32 + (size_t)(places) * ZILGWERN_SAVED_CARD_BYTES + 2 * ZILGWERN_LEVELS + 2 * (size_t)(places) + 2 +                     \
+     ZILGWERN_TABLE_ENTRIES * ZILGWERN_ENTRY_BYTES)
 
 /* ---- Lent memory ------------------------------------------------------------------------------------------------------ */
 
@@ -104,14 +113,18 @@ ZILGWERN_STATIC_ASSERT(sizeof(zilgwern_head) == 80, "the head is 10 words of 64 
 
 /* ---- Numbers ---------------------------------------------------------------------------------------------------------- */
 
-/* What a call returns. Where several apply, the lowest comes. */
+/* What a call returns. Where several apply, the lowest comes; but save looks at 1, 5, 3 in turn, and open at 1, 21, 22, 5. */
 enum {
     ZILGWERN_ACCEPTED = 0,
-    ZILGWERN_WRONG_SIZES = 1,      /* area not 16 to 4,096 whole places, or not P cards, or not 4 P list items */
+    ZILGWERN_WRONG_SIZES = 1,      /* area not 16 to 4,096 whole places, or not P cards, or not 4 P list items; open: or not as
+                                      many working cards as cards */
     ZILGWERN_WRONG_THRESHOLD = 2,  /* make: threshold outside 1 to 8 */
-    ZILGWERN_SHORT_ANSWER = 3,     /* run: answer buffer under 1,024 bytes */
+    ZILGWERN_SHORT_ANSWER = 3,     /* run: answer buffer under 1,024 bytes; save: buffer shorter than the saved book */
     ZILGWERN_BROKEN_LIST = 4,      /* run: list over 65,536 bytes, a length below 4, or lengths not ending at the list's end */
-    ZILGWERN_NOT_SOUND = 5         /* check, run: the store is not sound; the letter is that of the first broken rule */
+    ZILGWERN_NOT_SOUND = 5,        /* check, run, save: the store is not sound; open: the store as opened is not. The letter is
+                                      that of the first broken rule */
+    ZILGWERN_NOT_A_BOOK = 21,      /* open: the bytes are not those of a saved book */
+    ZILGWERN_FEWER_PLACES = 22     /* open: the area has fewer places than the saved book names */
 };
 
 /*
@@ -170,6 +183,21 @@ typedef struct zilgwern_outcome {
 
 ZILGWERN_STATIC_ASSERT(sizeof(zilgwern_outcome) == 24, "the outcome is 3 words of 64 bits");
 
+/*
+ * A saved book: length of the whole (4), kind 48 (2), P, threshold, cursor (2 each); of levels 1 and 2 the mark's flag (2: 0 or
+ * 1) and key (8: 0 if none); of each card the state (2), the link count (2), and of each link place (2), low (8), high (8),
+ * number (2); the four lists and the memory entries, each after its count (2). Items have 2 bytes, entries the form above, with
+ * 1 or 2 (a delete mark). docs/FORMATS.md has an example. The area's bytes are not in it.
+ */
+
+/* What saving gives back beside its number. */
+typedef struct zilgwern_saved {
+    uint64_t letter; /* of the first broken rule where the number is 5, else 0 */
+    uint64_t length; /* of the saved book; 0 if refused */
+} zilgwern_saved;
+
+ZILGWERN_STATIC_ASSERT(sizeof(zilgwern_saved) == 16, "what saving gives back is 2 words of 64 bits");
+
 /* ---- Calls ------------------------------------------------------------------------------------------------------------ */
 
 /* Makes a new store in memory of any contents; the area's bytes stay as found. Gives 0, 1 or 2. */
@@ -189,6 +217,25 @@ uint64_t zilgwern_check(const uint8_t *area, size_t area_bytes, const zilgwern_c
 uint64_t zilgwern_run(uint8_t *area, size_t area_bytes, zilgwern_card *cards, size_t card_count, uint16_t *lists,
                       size_t item_count, zilgwern_head *head, uint8_t *memory, const uint8_t *requests,
                       size_t request_bytes, uint8_t *answer, size_t answer_bytes, zilgwern_outcome *outcome);
+
+/*
+ * Writes the book as bytes to the front of the buffer; those of the buffer beyond *saved's length are untouched, and all of them
+ * where it is refused. The store is not changed. To keep a store, keep the area beside these bytes, both of one moment.
+ * Gives 0, 1, 5 or 3.
+ */
+uint64_t zilgwern_save(const uint8_t *area, size_t area_bytes, const zilgwern_card *cards, size_t card_count,
+                       const uint16_t *lists, size_t item_count, const zilgwern_head *head, const uint8_t *memory,
+                       uint8_t *buffer, size_t buffer_bytes, zilgwern_saved *saved);
+
+/*
+ * Opens a saved book over an area, which is only read: cards, lists, head and memory become the store's, whatever they held.
+ * The area has as many places as the book names, or more: the added ones are free, so a store that ran short of places goes on.
+ * As many working cards as cards are wanted; with 0 and 5 they hold the cards of the store as opened, else they stay. *letter
+ * is that of the first broken rule of the store as opened with 5, else 0. Gives 0, 1, 21, 22 or 5.
+ */
+uint64_t zilgwern_open(const uint8_t *area, size_t area_bytes, zilgwern_card *cards, size_t card_count, uint16_t *lists,
+                       size_t item_count, zilgwern_head *head, uint8_t *memory, const uint8_t *book, size_t book_bytes,
+                       zilgwern_card *working, size_t working_count, uint64_t *letter);
 
 #ifdef __cplusplus
 }

@@ -6,6 +6,7 @@ pub mod clock;
 pub mod compare;
 pub mod engine;
 pub mod engines;
+pub mod kept;
 pub mod lists;
 pub mod options;
 pub mod places;

@@ -4,6 +4,7 @@ use bench::checks::{self, check_times};
 use bench::compare::Expected;
 use bench::engine::{LOOK_UPS, SCANS};
 use bench::engines::{Kind, KINDS};
+use bench::kept::kept_times;
 use bench::lists::Listed;
 use bench::options::{Options, HELP};
 use bench::places::{Steps, Watched, Written};
@@ -91,6 +92,16 @@ fn check(options: &Options) {
     println!("{}", report::checks(&times.collect::<Vec<_>>()));
 }
 
+/// Keeping full stores of each size.
+fn kept(options: &Options) {
+    let sqlite = options.only.iter().any(|word| word == "sqlite");
+    for (places, _) in &options.sizes {
+        say(&format!("keeping {} places", grouped(*places)));
+        let times = kept_times(options.seed, *places, options.rounds * CHECKS, sqlite);
+        println!("{}", report::kept(&times));
+    }
+}
+
 /// Leads one store through all puts and compares its answers.
 fn lead(store: &mut dyn Steps, workload: &Workload) -> Result<Written, String> {
     let name = store.name();
@@ -159,6 +170,9 @@ fn run(options: &Options) -> Result<(), String> {
     }
     if options.check {
         check(options);
+    }
+    if options.kept {
+        kept(options);
     }
     if options.written {
         written(options)?;

@@ -13,7 +13,7 @@ usage: bench/run [OPTIONS]
   --rounds N        rounds of each measure, medians are told (7)
   --places P        one size of store alone: 4096 or 256
   --only STORES     of zilgwern, second, btreemap, lmdb, leveldb, sqlite; with commas between
-  --measure NAMES   of put, hit, miss, scan, check, written, threshold; with commas between
+  --measure NAMES   of put, hit, miss, scan, check, kept, written, threshold; with commas between
   --thresholds LIST of the table 'threshold': numbers from 1 to 8, with commas between (1,4,8)
   --repeat N        look-ups and scans of a round so many times (1)
   --plain           compare no answers and time no empty runs: for a profile of one store
@@ -23,6 +23,9 @@ usage: bench/run [OPTIONS]
 The tables go to standard output, progress to standard error. LMDB, LevelDB and SQLite come from the Debian packages liblmdb0,
 libleveldb1d and libsqlite3-0; bench/run installs them where it may, and a store that is not there is left out with a word. All
 answers are compared with what was put: the status is 1 where one differs.
+
+'kept' has what it costs to keep a full store between jobs: to save its book and to open it again, beside the second implementation,
+the five pieces of memory copied as they lie, and SQLite's bytes of the same entries. Each way checks what it reads.
 
 Times are those of stores with threshold 4. The last two tables count and time nothing, so they are the same on every machine:
 'written' has the places that compaction writes, beside upper-level driven compaction, with as many keys as fit with threshold 4;
@@ -47,6 +50,7 @@ pub struct Options {
     pub only: Vec<String>,
     pub measures: Vec<Measure>,
     pub check: bool,
+    pub kept: bool,
     pub written: bool,
     pub by_threshold: bool,
     pub thresholds: Vec<u64>,
@@ -65,6 +69,7 @@ impl Options {
             only: KINDS.iter().map(|kind| kind.word.to_string()).collect(),
             measures: Measure::ALL.to_vec(),
             check: true,
+            kept: true,
             written: true,
             by_threshold: true,
             thresholds: vec![1, 4, 8],
@@ -115,13 +120,14 @@ impl Options {
     }
 
     fn take_measures(&mut self, words: &str) -> Result<(), String> {
-        (self.check, self.written, self.by_threshold) = (false, false, false);
+        (self.check, self.kept, self.written, self.by_threshold) = (false, false, false, false);
         self.measures.clear();
         for word in words.split(',') {
             let measure = Measure::ALL.into_iter().find(|measure| measure.word() == word);
             match (word, measure) {
                 (_, Some(measure)) => self.measures.push(measure),
                 ("check", _) => self.check = true,
+                ("kept", _) => self.kept = true,
                 ("written", _) => self.written = true,
                 ("threshold", _) => self.by_threshold = true,
                 _ => return Err(format!("--measure: {word}: no such measure")),

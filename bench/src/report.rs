@@ -1,7 +1,8 @@
-//! The tables, in Markdown: times with ratios, the aims, checks, places written, and thresholds side by side.
+//! The tables, in Markdown: times with ratios, the aims, checks, stores kept, places written, and thresholds side by side.
 
 use crate::checks::CheckTimes;
 use crate::engines::{Kind, KINDS};
+use crate::kept::KeptTimes;
 use crate::lists::THRESHOLD;
 use crate::places::Written;
 use crate::rounds::{Measure, Times};
@@ -170,6 +171,26 @@ pub fn checks(all: &[CheckTimes]) -> String {
             times.second.map_or(String::new(), |second| {
                 format!("{} ({})", figures(second), figures(second / times.proved))
             }),
+        ]);
+    }
+    text
+}
+
+/// What it costs to keep a store, each way with its ratio to the first.
+pub fn kept(times: &KeptTimes) -> String {
+    let first = format!("{} full places kept", grouped(times.places));
+    let mut text = head(&[first, "bytes".into(), "save (us)".into(), "open (us)".into()]);
+    let Some(least) = times.ways.first() else { return text };
+    for (number, way) in times.ways.iter().enumerate() {
+        let cell = |time: f64, one: f64| match number {
+            0 => figures(time),
+            _ => format!("{} ({})", figures(time), figures(time / one)),
+        };
+        text += &line(&[
+            way.title.to_string(),
+            grouped(way.bytes),
+            cell(way.save, least.save),
+            cell(way.open, least.open),
         ]);
     }
     text

@@ -2,9 +2,10 @@
 
 use bench::clock::timed;
 use bench::engines::KINDS;
+use bench::kept::{KeptTimes, WayTimes};
 use bench::options::{Options, SIZES};
 use bench::places::Written;
-use bench::report::{by_threshold, figures, grouped, written};
+use bench::report::{by_threshold, figures, grouped, kept, written};
 use bench::rounds::Measure;
 use std::hint::black_box;
 use std::thread::sleep;
@@ -22,7 +23,8 @@ fn options_are_read() {
         (all.seed, all.rounds, all.sizes, all.only.len()),
         (1, 7, SIZES.to_vec(), KINDS.len())
     );
-    assert!(all.check && all.written && all.by_threshold && all.measures == Measure::ALL);
+    assert!(all.check && all.kept && all.written && all.by_threshold);
+    assert_eq!(all.measures, Measure::ALL);
     assert_eq!(all.thresholds, [1, 4, 8]);
     let quick = options("--quick --seed=5").unwrap();
     assert_eq!((quick.seed, quick.rounds, quick.sizes), (5, 3, vec![SIZES[1]]));
@@ -33,7 +35,9 @@ fn options_are_read() {
         (vec!["lmdb".into(), "zilgwern".into()], vec![Measure::Scan])
     );
     assert_eq!((one.check, one.written, one.sizes, one.rounds), (true, false, vec![SIZES[0]], 2));
-    assert!(!one.by_threshold);
+    assert!(!one.by_threshold && !one.kept);
+    let kept = options("--measure kept").unwrap();
+    assert!(kept.kept && !kept.check && kept.measures.is_empty());
     let counted = options("--measure threshold --thresholds 8,2").unwrap();
     assert_eq!((counted.by_threshold, counted.check, counted.written), (true, false, false));
     assert_eq!((counted.thresholds, counted.measures), (vec![8, 2], vec![]));
@@ -74,6 +78,13 @@ fn a_table_is_markdown() {
     let lines: Vec<&str> = table.lines().collect();
     assert_eq!(lines[1], "|---|---|---|---|---|---|");
     assert_eq!(lines[2], "| uniform | lower | 0.250 | 4.00 | 5 | 1.50 |");
+    let way = |title, bytes, save, open| WayTimes { title, bytes, save, open };
+    let ways = vec![way("book", 1234, 10.0, 20.0), way("other", 99, 15.0, 5.0)];
+    let table = kept(&KeptTimes { places: 4096, ways });
+    let lines: Vec<&str> = table.lines().collect();
+    assert_eq!(lines[0], "| 4,096 full places kept | bytes | save (us) | open (us) |");
+    assert_eq!(lines[2], "| book | 1,234 | 10.0 | 20.0 |");
+    assert_eq!(lines[3], "| other | 99 | 15.0 (1.50) | 5.00 (0.250) |");
     let other = Written { places: 4, tidies: 1, most: 3, ..counted };
     let table = by_threshold(&[1, 8], &[("skewed".into(), vec![counted, other])]);
     let lines: Vec<&str> = table.lines().collect();

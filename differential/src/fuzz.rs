@@ -1,10 +1,12 @@
 //! One input of a fuzzer as a run: its bytes decide what is lent, the list and the room for answers. Everything is compared
 //! with the second implementation, and on sound stores the judge looks on too.
 //!
-//! The first byte names the mode, modulo 4:
+//! The first byte names the mode, modulo 5:
 //! 0 arbitrary sizes and contents of all pieces; 1 a sound store, damaged; 2 a sound store and an arbitrary list;
-//! 3 a sound store and a list of mostly good requests, cut into runs by the room for answers.
+//! 3 a sound store and a list of mostly good requests, cut into runs by the room for answers;
+//! 4 a sound store, saved, its bytes changed and opened (`fuzz_saved`).
 
+use crate::fuzz_saved::saved_and_opened;
 use crate::refused::{broken_name, compared_check, compared_run};
 use crate::Proved;
 use reference::generate::keys::Keys;
@@ -20,25 +22,25 @@ use reference::rules;
 use reference::run::{make, run};
 use reference::trial::{Eyes, Trial};
 
-pub const MODES: u8 = 4;
+pub const MODES: u8 = 5;
 
 /// The bound of lists in mode 0; the other modes have longer ones.
 const COUNTED: usize = 1024;
 
 /// The bytes of an input, taken from the front; zeros follow the last.
-struct Tape<'a>(&'a [u8]);
+pub(crate) struct Tape<'a>(&'a [u8]);
 
 impl<'a> Tape<'a> {
-    fn byte(&mut self) -> u8 {
+    pub(crate) fn byte(&mut self) -> u8 {
         self.bytes(1).first().copied().unwrap_or(0)
     }
 
-    fn pair(&mut self) -> u16 {
+    pub(crate) fn pair(&mut self) -> u16 {
         u16::from_le_bytes([self.byte(), self.byte()])
     }
 
     /// So many bytes, or all that are left.
-    fn bytes(&mut self, count: usize) -> &'a [u8] {
+    pub(crate) fn bytes(&mut self, count: usize) -> &'a [u8] {
         let (front, rest) = self.0.split_at(count.min(self.0.len()));
         self.0 = rest;
         front
@@ -57,7 +59,7 @@ impl<'a> Tape<'a> {
         u64::from_le_bytes(bytes)
     }
 
-    fn is_over(&self) -> bool {
+    pub(crate) fn is_over(&self) -> bool {
         self.0.is_empty()
     }
 }
@@ -70,7 +72,8 @@ pub fn try_input(input: &[u8]) -> Result<String, String> {
         0 => arbitrary(&mut tape),
         1 => damaged(&mut tape),
         2 => arbitrary_list(&mut tape),
-        _ => good_list(&mut tape),
+        3 => good_list(&mut tape),
+        _ => saved_and_opened(&mut tape),
     }?;
     Ok(format!("mode {mode}: {reached}"))
 }

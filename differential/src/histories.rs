@@ -9,9 +9,8 @@ use reference::generate::features::FEATURES;
 use reference::generate::keys::Keys;
 use reference::generate::planted::planted;
 use reference::generate::profile::{Source, PROFILES};
-use reference::generate::random::{mix, Random};
+use reference::generate::random::{any_lent, mix, Random};
 use reference::implementation::Ran;
-use reference::lent::Lent;
 use reference::limits::ANSWER_ROOM;
 use reference::reached::{Reached, STUCK};
 use reference::request::split;
@@ -222,20 +221,6 @@ fn some_places(range: &RangeInclusive<usize>, random: &mut Random) -> usize {
         2 | 3 => range.start() + random.below(span),
         _ => range.start() + random.below(random.clone().below(span) + 1),
     }
-}
-
-/// Lent memory of any content.
-pub fn any_lent(random: &mut Random, places: usize) -> Lent {
-    let mut lent = Lent::zeroed(places);
-    lent.area = random.bytes(places * 1024);
-    for word in lent.cards.iter_mut().flatten().chain(lent.head.iter_mut()) {
-        *word = random.word();
-    }
-    for item in &mut lent.lists {
-        *item = random.word() as u16;
-    }
-    lent.memory.copy_from_slice(&random.bytes(1024));
-    lent
 }
 
 /// Room for answers: mostly enough or nearly so for a list of so many bytes, sometimes for one reply, sometimes too little.

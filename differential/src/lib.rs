@@ -3,14 +3,18 @@
 
 pub mod damage;
 pub mod fuzz;
+mod fuzz_saved;
 pub mod guarded;
 pub mod histories;
 pub mod refused;
 
 use guarded::Guarded;
-use reference::implementation::{Implementation, Ran};
-use reference::lent::{Lent, ROW_WORDS};
-use zilgwern_sys::{Head, Row, Table};
+use reference::implementation::{Implementation, Ran, Saved};
+use reference::lent::{Lent, Row, ROW_WORDS};
+use zilgwern_sys::{Head, Table};
+
+/// What stands before and behind rows.
+const ROW_GUARD: Row = [0xA5A5_A5A5_A5A5_A5A5; ROW_WORDS];
 
 /// The lent memory, each piece between guards.
 struct Pieces {
@@ -25,7 +29,7 @@ impl Pieces {
     fn of(lent: &Lent) -> Pieces {
         Pieces {
             area: Guarded::of(&lent.area, 0xA5),
-            cards: Guarded::of(&lent.cards, [0xA5A5_A5A5_A5A5_A5A5; ROW_WORDS]),
+            cards: Guarded::of(&lent.cards, ROW_GUARD),
             lists: Guarded::of(&lent.lists, 0xA5A5),
             head: Guarded::of(&[lent.head], [0xA5A5_A5A5_A5A5_A5A5; 10]),
             memory: Guarded::of(&[lent.memory], [0xA5; 1024]),
@@ -98,6 +102,44 @@ pub fn run(lent: &mut Lent, list: &[u8], answers: &mut [u8]) -> Outcome {
     Outcome { number, letter, served, written }
 }
 
+/// What `zilgwern_save` gives back, before anything is cut to smaller numbers.
+#[derive(Clone, Copy, PartialEq, Eq, Debug)]
+pub struct SaveOutcome {
+    pub number: u64,
+    pub letter: u64,
+    pub length: u64,
+}
+
+/// Saves the book. Fails if the call changed what was lent or touched a byte outside of the buffer.
+pub fn save(lent: &Lent, buffer: &mut [u8]) -> SaveOutcome {
+    let mut pieces = Pieces::of(lent);
+    let mut bytes = Guarded::of(buffer, 0x5A);
+    let mut outcome = Guarded::of(&[[0xA5A5; 2]], [0xA5A5_A5A5_A5A5_A5A5; 2]);
+    // SAFETY: as above.
+    let number = unsafe { pieces.raw().save(bytes.inside(), outcome.first()) };
+    assert_eq!(pieces.back().difference(lent), None, "save changed what it was lent");
+    buffer.copy_from_slice(&bytes.back("save buffer"));
+    let [letter, length] = outcome.back("outcome of saving")[0];
+    SaveOutcome { number, letter, length }
+}
+
+/// Opens a saved book: number and letter. Fails if the call changed the saved bytes or the area, or touched a byte outside of what
+/// it was lent.
+pub fn open(lent: &mut Lent, saved: &[u8], working: &mut [Row]) -> (u64, u64) {
+    let mut pieces = Pieces::of(lent);
+    let mut book = Guarded::of(saved, 0xA5);
+    let mut rows = Guarded::of(working, ROW_GUARD);
+    let mut letter = Guarded::of(&[0xA5A5], 0xA5A5_A5A5_A5A5_A5A5);
+    // SAFETY: as above.
+    let number = unsafe { pieces.raw().open(book.inside(), rows.inside(), letter.first()) };
+    let area = std::mem::take(&mut lent.area);
+    *lent = pieces.back();
+    assert!(lent.area == area, "open changed the area");
+    assert!(book.back("saved book") == saved, "open changed the saved bytes");
+    working.copy_from_slice(&rows.back("working rows"));
+    (number, letter.back("letter")[0])
+}
+
 /// The proved store, to be led through the second implementation's trials.
 pub struct Proved;
 
@@ -124,6 +166,20 @@ impl Implementation for Proved {
             served: narrow("requests served", outcome.served),
             written: narrow("bytes written", outcome.written),
         }
+    }
+
+    fn save(&self, lent: &Lent, buffer: &mut [u8]) -> Saved {
+        let outcome = save(lent, buffer);
+        Saved {
+            number: narrow("number", outcome.number),
+            letter: narrow("letter", outcome.letter),
+            length: narrow("saved length", outcome.length),
+        }
+    }
+
+    fn open(&self, lent: &mut Lent, saved: &[u8], working: &mut [Row]) -> (u16, u8) {
+        let (number, letter) = open(lent, saved, working);
+        (narrow("number", number), narrow("letter", letter))
     }
 }
 

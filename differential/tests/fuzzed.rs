@@ -12,6 +12,12 @@ fn required() -> Vec<String> {
         names.extend(numbers.iter().map(|number| format!("mode {mode}: number {number}")));
         names.push(format!("mode {mode}: number 0, some served"));
     }
+    let accepted = ["over as many places", "over more"].map(|over| format!("opened {over}"));
+    let refused = ["saving gives 3", "opening gives 1", "opening gives 21", "opening gives 22"];
+    names.extend(
+        accepted.iter().map(String::as_str).chain(refused).map(|it| format!("mode 4: {it}")),
+    );
+    names.extend(('A'..='G').map(|letter| format!("mode 4: opening gives 5, letter {letter}")));
     names.extend(all_broken_names().map(|name| format!("mode 1: number 5, {name}")));
     names
 }
@@ -19,7 +25,7 @@ fn required() -> Vec<String> {
 #[test]
 fn inputs_of_all_modes_show_no_difference() {
     let mut reached = Reached::requiring(required());
-    for seed in 0..8_000 {
+    for seed in 0..10_000 {
         let name =
             try_input(&input_of(seed)).unwrap_or_else(|words| panic!("seed {seed}: {words}"));
         reached.count(name);
@@ -31,7 +37,7 @@ fn inputs_of_all_modes_show_no_difference() {
 #[test]
 fn short_and_empty_inputs_are_worked_through() {
     for length in 0..40 {
-        for mode in 0..4 {
+        for mode in 0..5 {
             let mut input = vec![mode; length];
             assert!(try_input(&input).is_ok());
             input.fill(255);

@@ -1,8 +1,7 @@
 //! Making a store over lent memory of any contents, against the second implementation.
 
-use differential::histories::any_lent;
 use differential::make;
-use reference::generate::random::Random;
+use reference::generate::random::{any_lent, Random};
 use reference::run;
 
 #[test]

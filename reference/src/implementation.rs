@@ -1,6 +1,7 @@
 //! What an implementation of the store looks like from outside, so that any can be judged.
 
-use crate::lent::Lent;
+use crate::lent::{Lent, Row};
+use crate::reopen;
 use crate::rules::{check, letter_of};
 use crate::run::{make, run_with_slip};
 use crate::slip::Slip;
@@ -15,6 +16,16 @@ pub struct Ran {
     pub written: usize,
 }
 
+/// The numbers that saving gives back; the book lies in the buffer.
+#[derive(Clone, Copy, PartialEq, Eq, Debug)]
+pub struct Saved {
+    pub number: u16,
+    /// As for a run.
+    pub letter: u8,
+    /// Bytes of the whole, 0 if refused.
+    pub length: usize,
+}
+
 /// An implementation works on lent memory alone and keeps nothing of its own between calls.
 pub trait Implementation {
     /// Makes a new store: 0, 1 or 2.
@@ -25,6 +36,12 @@ pub trait Implementation {
 
     /// Runs a list and writes answers to the front of the buffer.
     fn run(&self, lent: &mut Lent, list: &[u8], answers: &mut [u8]) -> Ran;
+
+    /// Saves the book to the front of the buffer: 0, 1, 5 or 3.
+    fn save(&self, lent: &Lent, buffer: &mut [u8]) -> Saved;
+
+    /// Opens a saved book over the lent area, with as many working rows as cards: 0, 1, 21, 22 or 5, and the letter.
+    fn open(&self, lent: &mut Lent, saved: &[u8], working: &mut [Row]) -> (u16, u8);
 }
 
 /// The second implementation, with a slip planted if it is a mutant.
@@ -49,5 +66,17 @@ impl Implementation for Reference {
         answers[..written].copy_from_slice(&outcome.answers);
         let letter = letter_of(&outcome.broken, self.slip);
         Ran { number: outcome.number, letter, served: outcome.served, written }
+    }
+
+    fn save(&self, lent: &Lent, buffer: &mut [u8]) -> Saved {
+        let saved = reopen::save(lent, buffer.len(), self.slip);
+        let length = saved.bytes.len();
+        buffer[..length].copy_from_slice(&saved.bytes);
+        Saved { number: saved.number, letter: letter_of(&saved.broken, self.slip), length }
+    }
+
+    fn open(&self, lent: &mut Lent, saved: &[u8], working: &mut [Row]) -> (u16, u8) {
+        let (number, broken) = reopen::open(lent, saved, working, self.slip);
+        (number, letter_of(&broken, self.slip))
     }
 }

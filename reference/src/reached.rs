@@ -40,6 +40,11 @@ impl Reached {
         self.counts.get(name).copied().unwrap_or(0)
     }
 
+    /// All counters by name.
+    pub fn iter(&self) -> impl Iterator<Item = (&str, u64)> {
+        self.counts.iter().map(|(name, count)| (name.as_str(), *count))
+    }
+
     /// The required counters that are still zero.
     pub fn missing(&self) -> Vec<&str> {
         self.counts

@@ -153,4 +153,14 @@ slips! {
     FrozenJudgedWithLinks,
     /// The last broken rule is given.
     LastBrokenGiven,
+
+    // Saving the book (note 4).
+    /// Opening over more places takes the cursor to the first added one.
+    CursorToAddedPlaces,
+    /// Opening writes the lent book before the store as opened is checked.
+    OpenWritesBeforeCheck,
+    /// A saved list's count goes by the most places of any store, and not by those saved.
+    SavedListCountAnyPlaces,
+    /// Saving judges the room before the store, as a run does.
+    SaveJudgesRoomFirst,
 }

@@ -44,10 +44,20 @@ pub fn push_entry(out: &mut Vec<u8>, key: Key, value: Option<&[u8]>) {
 
 /// The whole place that holds these entries.
 pub fn table_bytes(entries: &Entries) -> [u8; PLACE_BYTES] {
-    let mut body = Vec::new();
-    for (key, entry) in entries {
-        push_entry(&mut body, *key, entry.value());
-    }
+    let pieces: Vec<Vec<u8>> = entries
+        .iter()
+        .map(|(key, entry)| {
+            let mut bytes = Vec::new();
+            push_entry(&mut bytes, *key, entry.value());
+            bytes
+        })
+        .collect();
+    put_table(&pieces)
+}
+
+/// The whole place that holds entries given as bytes, in this order; it is a table if their keys rise.
+pub fn put_table(entries: &[impl AsRef<[u8]>]) -> [u8; PLACE_BYTES] {
+    let body: Vec<u8> = entries.iter().flat_map(|entry| entry.as_ref()).copied().collect();
     let mut bytes = Vec::with_capacity(PLACE_BYTES);
     bytes.extend(((TABLE_HEAD + body.len()) as u16).to_le_bytes());
     bytes.extend(TABLE_KIND.to_le_bytes());
@@ -84,7 +94,7 @@ pub fn read_table(place: &[u8], fewest: usize) -> Option<Shown<'_>> {
 }
 
 /// The entry at the front of these bytes: its length, key and value.
-fn read_entry(bytes: &[u8]) -> Option<(usize, Key, Option<&[u8]>)> {
+pub fn read_entry(bytes: &[u8]) -> Option<(usize, Key, Option<&[u8]>)> {
     let size = usize::from(u16_at(bytes, 0)?);
     let key = u64_at(bytes, 4)?;
     let value = bytes.get(ENTRY_HEAD..size)?;

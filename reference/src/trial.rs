@@ -20,11 +20,11 @@ pub enum Eyes {
 }
 
 impl Eyes {
-    fn judge(self) -> bool {
+    pub(crate) fn judge(self) -> bool {
         self != Eyes::Comparison
     }
 
-    fn compare(self) -> bool {
+    pub(crate) fn compare(self) -> bool {
         matches!(self, Eyes::Comparison | Eyes::Both)
     }
 }
@@ -41,9 +41,9 @@ pub const UNTOUCHED: u8 = 0xA5;
 
 /// A history under way.
 pub struct Trial<'a> {
-    subject: &'a dyn Implementation,
-    eyes: Eyes,
-    judge: Judge,
+    pub(crate) subject: &'a dyn Implementation,
+    pub(crate) eyes: Eyes,
+    pub(crate) judge: Judge,
     pub lent: Lent,
     pub reached: Reached,
     /// Requests served so far.

@@ -104,7 +104,7 @@ fn refusal(out: &mut fmt::Formatter, error: &Error) -> fmt::Result {
             "`flush` writes the memory table to a place and makes room for new keys.",
         ),
         Error::Request(Refusal::NoPlace) => {
-            let words = "`tidy all` may free places. If it is refused too, the store is too small.";
+            let words = "`tidy all` may free places. If it is refused too, add some with `grow`.";
             paragraph(out, words)
         }
         Error::Refused(Refused::NotSound(rule)) => {

@@ -2,13 +2,16 @@
 
 mod codec;
 mod command;
+mod disk;
 mod failure;
 mod file;
+mod form;
 mod help;
 mod loops;
 mod options;
 mod picture;
 mod replay;
+mod saved;
 mod session;
 mod words;
 
@@ -57,11 +60,14 @@ fn obey(words: &[String], streams: &mut Streams) -> Result<(), Failure> {
         ("new", _) => Err(Failure::usage("new", "takes no words behind it")),
         ("encode", rest) => codec::encode(rest, streams),
         ("decode", rest) => codec::decode(rest, &options, streams),
-        ("prompt", []) => loops::prompt(Session::begin(&options)?, streams),
+        ("save", rest) => saved::save(&options, rest, streams),
+        ("open", rest) => saved::open(&options, rest, streams),
+        ("grow", rest) => saved::grow(&options, rest, streams),
+        ("prompt", []) => loops::prompt(Session::begin(&options, streams.err)?, streams),
         ("prompt", _) => Err(Failure::usage("prompt", "takes no words behind it")),
-        ("script", rest) => loops::script(Session::begin(&options)?, rest, streams),
-        ("replay", rest) => replay::replay(Session::begin(&options)?, rest, streams),
-        ("show", rest) => picture::show(&Session::begin(&options)?, rest, streams),
+        ("script", rest) => loops::script(Session::begin(&options, streams.err)?, rest, streams),
+        ("replay", rest) => replay::replay(Session::begin(&options, streams.err)?, rest, streams),
+        ("show", rest) => picture::show(&Session::begin(&options, streams.err)?, rest, streams),
         _ => loops::one(&options, streams),
     }
 }

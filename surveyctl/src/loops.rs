@@ -10,7 +10,7 @@ use std::io::{BufRead, Write};
 /// The words of the command line as one command; without any, a prompt or a script from standard input.
 pub fn one(options: &Options, streams: &mut Streams) -> Result<(), Failure> {
     if options.command.is_empty() {
-        let session = Session::begin(options)?;
+        let session = Session::begin(options, streams.err)?;
         return match streams.asks {
             true => prompt(session, streams),
             false => script(session, &[], streams),
@@ -18,7 +18,7 @@ pub fn one(options: &Options, streams: &mut Streams) -> Result<(), Failure> {
     }
     // Known words first: a store is not opened for words that mean nothing.
     let Some(command) = Command::of(&line_of(options)).map_err(hinted)? else { return Ok(()) };
-    let begun = Session::begin(options);
+    let begun = Session::begin(options, streams.err);
     if let (Command::Check, Err(failure)) = (&command, &begun) {
         // The answer to what was asked, where `sound` would stand; scripts sort by it.
         if let Some(rule) = failure.first_broken() {

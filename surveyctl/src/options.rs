@@ -6,8 +6,9 @@ use crate::help;
 pub struct Options {
     /// The file that keeps the store's memory.
     pub store: Option<String>,
+    /// Of a store that is made or grows, if they are named.
+    pub places: Option<usize>,
     /// Of a store that is made.
-    pub places: usize,
     pub threshold: u64,
     /// Print keys as whole numbers.
     pub whole: bool,
@@ -25,7 +26,7 @@ impl Options {
     pub fn of(words: &[String]) -> Result<Options, Failure> {
         let mut options = Options {
             store: None,
-            places: 32,
+            places: None,
             threshold: 4,
             whole: false,
             help: false,
@@ -61,7 +62,7 @@ impl Options {
     ) -> Result<(), Failure> {
         match name {
             "-s" | "--store" => self.store = Some(valued(name, value)?),
-            "--places" => self.places = number(name, value)?,
+            "--places" => self.places = Some(number(name, value)?),
             "--threshold" => self.threshold = number(name, value)?,
             "--whole-keys" => self.whole = true,
             "-h" | "--help" => self.help = true,
@@ -72,6 +73,11 @@ impl Options {
             }
         }
         Ok(())
+    }
+
+    /// The places of a store that is made.
+    pub fn places(&self) -> usize {
+        self.places.unwrap_or(32)
     }
 
     /// The text that is asked for in place of anything else.
@@ -97,7 +103,8 @@ fn valued(name: &str, value: &mut dyn FnMut() -> Option<String>) -> Result<Strin
     value().ok_or_else(|| Failure::Words(format!("{name}: a word is missing behind it")))
 }
 
-fn number<T: std::str::FromStr>(
+/// The number behind an option.
+pub fn number<T: std::str::FromStr>(
     name: &str,
     value: &mut dyn FnMut() -> Option<String>,
 ) -> Result<T, Failure> {

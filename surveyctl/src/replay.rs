@@ -1,8 +1,8 @@
 //! `replay`: runs a file of requests, of any length, and says on the way how far it is.
 
 use crate::codec::read;
+use crate::disk::same_file;
 use crate::failure::Failure;
-use crate::file::same_file;
 use crate::session::{refusal_words, Session};
 use crate::Streams;
 use std::collections::BTreeMap;

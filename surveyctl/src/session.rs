@@ -18,13 +18,13 @@ pub struct Session {
 
 impl Session {
     /// Opens the store of the file that is named, or makes one that lives as long as this call.
-    pub fn begin(options: &Options) -> Result<Session, Failure> {
+    pub fn begin(options: &Options, err: &mut dyn Write) -> Result<Session, Failure> {
         let (file, store) = match &options.store {
             Some(name) => {
-                let (file, store) = StoreFile::open(name)?;
+                let (file, store) = StoreFile::open(name, err)?;
                 (Some(file), store)
             }
-            None => (None, Store::owned(options.places, options.threshold)?),
+            None => (None, Store::owned(options.places(), options.threshold)?),
         };
         Ok(Session { store, file, whole: options.whole })
     }
@@ -36,7 +36,7 @@ impl Session {
 
     /// Writes the store to its file, if it has one and has changed.
     pub fn keep(&mut self) -> Result<(), Failure> {
-        self.file.as_mut().map_or(Ok(()), |file| file.keep(&self.store))
+        self.file.as_mut().map_or(Ok(()), |file| file.keep(&mut self.store))
     }
 
     /// Refuses to write something else over the store's file.

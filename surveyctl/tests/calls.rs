@@ -25,7 +25,7 @@ fn fails(folder: &Folder, words: &[&str], status: i32, says: &str) {
 #[test]
 fn words_that_mean_nothing_have_status_2() {
     let folder = with_store("status_2");
-    let cases: [(&[&str], &str); 24] = [
+    let cases: [(&[&str], &str); 32] = [
         (&["frob"], "frob: no such command; see `surveyctl --help`"),
         (&["--frob"], "--frob: no such option"),
         (&["--places"], "--places: a word is missing behind it"),
@@ -51,6 +51,14 @@ fn words_that_mean_nothing_have_status_2() {
         (&["-s", "s", "put", "12", "3", "crack"], "3: metres (3.0), or a value"),
         (&["-s", "s", "get", "12", "-3.450"], "-3.450: metres are written"),
         (&["-s", "s", "put", "12", "1099511627.776", "x"], "metres to 1099511627.775"),
+        (&["grow", "--places", "64"], "grow: name the file of the store"),
+        (&["-s", "s", "grow"], "grow: say how many it shall have"),
+        (&["-s", "s", "grow", "64"], "`64` is too much"),
+        (&["-s", "s", "grow", "--places", "x"], "--places: x is not a whole number"),
+        (&["-s", "s", "save", "--book", "b"], "save: name both files"),
+        (&["-s", "s", "save", "--book"], "--book wants a word behind it"),
+        (&["-s", "s", "save", "--book", "b", "--area", "b"], "book and area want two files"),
+        (&["-s", "t", "open", "--area", "a"], "open: name both files"),
     ];
     for (words, says) in cases {
         fails(&folder, words, 2, says);
@@ -86,6 +94,7 @@ fn a_full_store_says_what_may_help() {
     folder.call_with(&["-s", "s", "script"], format!("{lines}put 99 v\n").as_bytes());
     fails(&folder, &["-s", "s", "flush"], 3, "refused, 20: ");
     fails(&folder, &["-s", "s", "flush"], 3, "`tidy all` may free places");
+    fails(&folder, &["-s", "s", "flush"], 3, "add some with `grow`");
 }
 
 #[test]
@@ -103,15 +112,16 @@ fn files_that_can_not_be_used_have_status_4() {
 fn what_is_done_is_kept_in_the_file_and_nowhere_else() {
     let folder = with_store("kept");
     let new = folder.read("s");
-    assert_eq!(new.len(), 16 * 1304 + 1112);
+    // Head, area, and the book of a new store: what stands before the cards, the cards, and counts of nothing.
+    assert_eq!(new.len(), 16 + 16 * 1024 + 32 + 16 * 4 + 5 * 2);
     assert_eq!(folder.done(&["-s", "s", "put", "12", "3.450", "long", "crack"]), "done\n");
     assert_ne!(folder.read("s"), new);
     assert_eq!(folder.done(&["-s", "s", "get", "12", "3.450"]), "long crack\n");
     assert_eq!(folder.done(&["-s", "s", "flush"]), "done\n");
     let flushed = folder.read("s");
-    // The table stands at the front of the file as the order lays it out.
-    assert_eq!(flushed[..8], [8 + 12 + 10, 0, 32, 0, 1, 0, 0, 0]);
-    assert_eq!(flushed[20..31], *b"long crack\0");
+    // The table stands at the front of the area as the order lays it out.
+    assert_eq!(flushed[16..][..8], [8 + 12 + 10, 0, 32, 0, 1, 0, 0, 0]);
+    assert_eq!(flushed[16..][20..31], *b"long crack\0");
     for words in [&["get", "5"][..], &["scan"], &["report"], &["check"], &["show"], &["tidy"]] {
         folder.call(&[&["-s", "s"], words].concat());
         assert_eq!(folder.read("s"), flushed, "{words:?}");

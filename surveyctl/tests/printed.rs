@@ -117,7 +117,7 @@ fn the_links_of_the_texts_lead_somewhere() {
 #[test]
 fn the_examples_of_the_help_texts_are_understood() {
     let folder = Folder::new("help");
-    let names = ["put", "get", "del", "scan", "show", "new"];
+    let names = ["put", "get", "del", "scan", "show", "new", "grow", "save", "open"];
     for name in names {
         let text = folder.done(&["help", name]);
         assert_eq!(text, folder.done(&[name, "--help"]));
@@ -128,9 +128,17 @@ fn the_examples_of_the_help_texts_are_understood() {
         }
     }
     folder.shell("surveyctl --store van.store --places 64 --threshold 2 new");
-    assert_eq!(folder.read("van.store").len(), 64 * 1304 + 1112);
+    assert_eq!(folder.read("van.store").len(), 16 + 64 * 1024 + 32 + 64 * 4 + 5 * 2);
     assert_eq!(folder.shell("surveyctl --store van.store show --svg van.svg"), "");
     assert!(folder.path("van.svg").exists());
+    // Those that keep a store are run as they are printed.
+    for name in ["grow", "save", "open"] {
+        let text = folder.done(&["help", name]);
+        let example = text.lines().find_map(|line| line.strip_prefix("  ")).expect(name);
+        folder.shell(&format!("{example} || echo failed >> failed"));
+    }
+    assert_eq!(folder.names(), ["office.store", "van.area", "van.book", "van.store", "van.svg"]);
+    assert!(folder.read("office.store") == folder.read("van.store"));
 }
 
 #[test]
@@ -145,8 +153,9 @@ fn every_command_has_a_help_text() {
         assert!(folder.done(&["help", command]).contains(command));
         count += 1;
     }
-    assert!(count > 15);
-    let texts = ["put", "scan", "check", "script", "replay", "decode"];
+    assert!(count > 18);
+    let texts =
+        ["put", "scan", "check", "script", "replay", "decode", "new", "grow", "save", "open"];
     let texts = texts.map(|it| folder.done(&["help", it]));
     let long = texts.iter().chain([&all]).flat_map(|text| text.lines()).find(|it| it.len() > 80);
     assert_eq!(long, None, "a terminal has 80 columns");

@@ -14,15 +14,6 @@ fn with_store(name: &str) -> Folder {
     folder
 }
 
-/// The names in a folder.
-fn names(folder: &Folder) -> Vec<String> {
-    let found = std::fs::read_dir(folder.path(".")).expect("a folder");
-    let mut names: Vec<String> =
-        found.map(|file| file.unwrap().file_name().into_string().unwrap()).collect();
-    names.sort();
-    names
-}
-
 /// Files may grow to 8 blocks: too few for the store. A write beyond is an error, as on a full disk.
 const FULL: &str = "trap '' XFSZ; ulimit -f 8";
 
@@ -46,7 +37,7 @@ fn a_full_disk_leaves_the_store_and_nothing_else() {
     }
     let came = folder.shell(&format!("{FULL}; surveyctl -s t new; echo status $?"));
     assert!(came.ends_with("status 4\n"), "{came}");
-    assert_eq!(names(&folder), ["out", "s"]);
+    assert_eq!(folder.names(), ["out", "s"]);
 }
 
 #[test]
@@ -57,7 +48,7 @@ fn a_program_that_ends_while_it_writes_leaves_the_store() {
     let came = folder.shell("ulimit -c 0; ulimit -f 8; surveyctl -s s put 5 after; echo status $?");
     // Who started the tests may have told all of them to ignore that signal; then it is a full disk once more.
     let ended = !came.contains("status 4\n");
-    assert_eq!(names(&folder).len() > 1, ended, "{came}");
+    assert_eq!(folder.names().len() > 1, ended, "{came}");
     assert!(folder.read("s") == before);
     assert_eq!(folder.done(&["-s", "s", "get", "5"]), "before\n");
     assert_eq!(folder.done(&["-s", "s", "put", "5", "after"]), "done\n");
@@ -74,7 +65,7 @@ fn links_and_permissions_stay() {
     assert!(folder.path("link").is_symlink());
     assert_eq!(folder.done(&["-s", "s", "get", "5"]), "after\n");
     assert_eq!(mode("s") & 0o777, 0o640);
-    assert_eq!(names(&folder), ["link", "s"]);
+    assert_eq!(folder.names(), ["link", "s"]);
 }
 
 #[test]
@@ -90,7 +81,7 @@ fn a_file_or_folder_that_may_not_be_written_is_left_alone() {
     let Came { status, out, err } = folder.call(&["-s", "/proc/self/new", "new"]);
     assert_eq!((status, out.as_str()), (4, ""), "{err}");
     assert!(folder.read("s") == before);
-    assert_eq!(names(&folder), ["s"]);
+    assert_eq!(folder.names(), ["s"]);
 }
 
 #[test]
@@ -147,5 +138,8 @@ fn a_device_without_end_is_no_store() {
     let Came { status, err, .. } = folder.call(&["-s", "/dev/zero", "check"]);
     assert_eq!(status, 3, "{err}");
     let words: Vec<&str> = err.split_whitespace().collect();
-    assert!(words.join(" ").contains("this one has more than 5342296."), "{err}");
+    assert!(
+        words.join(" ").contains("This one has more than 5342296 bytes and is neither."),
+        "{err}"
+    );
 }

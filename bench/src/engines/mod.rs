@@ -9,6 +9,7 @@ mod second;
 mod sqlite;
 
 pub use second::Second;
+pub use sqlite::Sqlite;
 
 use crate::engine::Engine;
 use crate::lists::Listed;

@@ -24,12 +24,18 @@ functions! {
         fn sqlite3_column_int64(Handle, c_int) -> i64;
         fn sqlite3_column_blob(Handle, c_int) -> *const c_void;
         fn sqlite3_column_bytes(Handle, c_int) -> c_int;
+        fn sqlite3_serialize(Handle, *const c_char, *mut i64, c_int) -> *mut u8;
+        fn sqlite3_deserialize(Handle, *const c_char, *mut u8, i64, i64, c_int) -> c_int;
+        fn sqlite3_malloc64(u64) -> *mut c_void;
+        fn sqlite3_free(*mut c_void) -> ();
     }
 }
 
 const READWRITE: c_int = 2;
 const CREATE: c_int = 4;
 const NOMUTEX: c_int = 0x8000;
+/// The bytes of a database belong to it, and may become more.
+const OWNED: c_int = 1 | 2;
 const ROW: c_int = 100;
 const DONE: c_int = 101;
 
@@ -60,6 +66,14 @@ fn unsigned(number: i64) -> Key {
 impl Sqlite {
     /// None where the library is missing.
     pub fn open() -> Option<Sqlite> {
+        let mut sqlite = Sqlite::connect()?;
+        sqlite.execute(SETUP);
+        sqlite.prepare_all();
+        Some(sqlite)
+    }
+
+    /// A database in memory without a table.
+    fn connect() -> Option<Sqlite> {
         assert_eq!(SCANNED, 16, "the limit in the scan's words");
         let call = Functions::open()?;
         let mut sqlite = Sqlite {
@@ -75,10 +89,47 @@ impl Sqlite {
             (call.sqlite3_open_v2)(c":memory:".as_ptr(), &mut sqlite.database, flags, null())
         };
         sqlite.good("opening", status);
-        sqlite.execute(SETUP);
-        sqlite.put = sqlite.prepare(PUT);
-        sqlite.look_up = sqlite.prepare(LOOK_UP);
-        sqlite.scan = sqlite.prepare(SCAN);
+        Some(sqlite)
+    }
+
+    fn prepare_all(&mut self) {
+        self.put = self.prepare(PUT);
+        self.look_up = self.prepare(LOOK_UP);
+        self.scan = self.prepare(SCAN);
+    }
+
+    /// The whole database as bytes.
+    pub fn saved(&self) -> Vec<u8> {
+        let mut length = 0;
+        // SAFETY: the bytes are the library's and are given back to it.
+        unsafe {
+            let main = c"main".as_ptr();
+            let data = (self.call.sqlite3_serialize)(self.database, main, &mut length, 0);
+            assert!(!data.is_null(), "SQLite: no memory for the bytes");
+            let bytes = from_raw_parts(data, length as usize).to_vec();
+            (self.call.sqlite3_free)(data as *mut c_void);
+            bytes
+        }
+    }
+
+    /// A database from such bytes, looked through as the survey store is by its check.
+    pub fn open_saved(bytes: &[u8]) -> Option<Sqlite> {
+        let mut sqlite = Sqlite::connect()?;
+        let length = bytes.len() as i64;
+        // SAFETY: the copy comes from the library's memory and is the database's from now on.
+        let status = unsafe {
+            let copy = (sqlite.call.sqlite3_malloc64)(length as u64) as *mut u8;
+            assert!(!copy.is_null(), "SQLite: no memory for the bytes");
+            copy.copy_from_nonoverlapping(bytes.as_ptr(), bytes.len());
+            let (call, main) = (sqlite.call.sqlite3_deserialize, c"main".as_ptr());
+            call(sqlite.database, main, copy, length, length, OWNED)
+        };
+        sqlite.good("opening bytes", status);
+        let check = sqlite.prepare("PRAGMA quick_check");
+        assert!(sqlite.row(check) && sqlite.value(check, 0) == b"ok", "SQLite: a sound database");
+        // SAFETY: the statement is not used any more.
+        unsafe { (sqlite.call.sqlite3_finalize)(check) };
+        sqlite.prepare_all();
         Some(sqlite)
     }
 

@@ -1,15 +1,18 @@
 // A history: a store made over lent memory, and runs performed on it one after the other. The contract is demand 3, of what memory and answers
 // then hold.
+ghost use Prim.Native.Nat.{_≤_};
 ghost use mathlib.Core.Path.{_≡_};
 ghost use mathlib.Core.Bool.{true};
 ghost use lib.ListN.{length};
 ghost use Rattle.book.specs.Pieces.{after, before};
-ghost use Rattle.history_lists.specs.Pieces.{piecesBefore, piecesAfter, ready, Runs};
+ghost use Rattle.history_lists.specs.Pieces.{piecesBefore, piecesAfter, ready, AllReady};
 ghost use Rattle.history_lists.specs.Performs.{RanOne, Ran, Performs};
 use book::head::HeadWords;
 use book::row::Row;
 use table::limits::PlaceBytes;
 use wire::results;
+
+pub mod grown;
 
 // What a history returns: the number of making the store, and how many runs were performed.
 pub struct Done {
@@ -53,7 +56,7 @@ fn run_one(
     served[k] = done.served;
 }
 
-// Performs the first n runs, one after the other.
+// Performs the runs from `from` on, up to n in all, one after the other.
 fn run_all(
     area: &mut [u8],
     cards: &mut [Row],
@@ -65,15 +68,16 @@ fn run_all(
     answers: &mut [u8],
     stops: &[usize],
     served: &mut [usize],
+    from: usize,
     n: usize,
 )
-    requires { ⌜ Runs (length (now input)) (now ends) (length (now answers)) (now stops) (length (now served)) n ⌝ }
+    requires { ⌜ (from ≤ n) × AllReady (length (now input)) (now ends) (length (now answers)) (now stops) (length (now served)) n ⌝ }
     ensures { λ _. ⌜
-        Ran (before area cards lists head memory) (piecesBefore input ends answers stops served) n
+        Ran (before area cards lists head memory) (piecesBefore input ends answers stops served) from n
         (after area cards lists head memory) (piecesAfter input ends answers stops served)
         ⌝ }
 {
-    let mut k = 0;
+    let mut k = from;
     while k < n {
         run_one(
             area,
@@ -131,6 +135,7 @@ pub fn perform(
         answers,
         stops,
         served,
+        0,
         n,
     );
     Done { number, runs: n }

@@ -1,18 +1,18 @@
 -- One run more. It writes its own buffer and its own number, and these lie behind those of the runs before: what was read off them stays.
 use Prim.Native.Nat.{ℕ, zero, suc, _+_, _-_, _≤_, _<_}
 use mathlib.Core.Path.{_≡_, refl, sym, _∙_, ap}
-use mathlib.Core.List.{List, [], _++_}
+use mathlib.Core.List.{List, [], _∷_, _++_, append-nil, append-assoc}
 use mathlib.Core.Option.{Option·getD}
 use native.Mathlib.Omega.{arith}
 use borrow.Author.Tests.{eqb-true, eqb-false}
 use lib.Dec.{eqb}
-use lib.ListN.{length, getD, take, drop, set}
-use lib.Seq.{sets, getD-set-same, getD-set-other, drop-set-lt, drop-drop}
+use lib.ListN.{length, getD, take, drop, set, length-append, drop-of-length-le}
+use lib.Seq.{sets, getD-set-same, getD-set-other, drop-set-lt, drop-drop, drop-append-le}
 use Rattle.coding.proofs.Sets.{length-part, part-same, part-before, drop-behind}
 use Rattle.ldc.specs.Lent.{Lent}
 use Rattle.ldc.specs.Request.{Request}
 use Rattle.ldc.specs.Run.{Outcome, split, run}
-use Rattle.ldc.specs.History.{Call, Event, repliesAt, paired, eventsOf, events, lentAfter}
+use Rattle.ldc.specs.History.{Call, Event, repliesAt, paired, eventsOf, events, lentAfter, servedIn}
 use Rattle.ldc.proofs.Basics.Cases.{cases}
 use Rattle.history_lists.specs.Pieces.{Pieces, pieces, startOf, piece, callAt, callsIn, eventsAt, eventsIn, notedIn}
 use Rattle.history_lists.specs.Performs.{outcomeAt, RanOne, Ran}
@@ -27,7 +27,7 @@ unfolding piece
 length-piece bytes ends k r w = length-part bytes (startOf ends k) (getD ends k 0 - startOf ends k) (omega arith)
 
 -- Bytes that agree from the start on have the same piece.
-piece-same : (bytes bytes′ ends : List ℕ) (k : ℕ) → drop (startOf ends k) bytes ≡ drop (startOf ends k) bytes′ → piece bytes ends k ≡ piece bytes′ ends k
+pub piece-same : (bytes bytes′ ends : List ℕ) (k : ℕ) → drop (startOf ends k) bytes ≡ drop (startOf ends k) bytes′ → piece bytes ends k ≡ piece bytes′ ends k
 unfolding piece
 piece-same bytes bytes′ ends k e = ap (take (getD ends k 0 - startOf ends k)) e
 
@@ -46,7 +46,7 @@ unfolding piece
 piece-before bytes ends vs j k r w = part-before bytes (startOf ends k) vs (startOf ends j) (getD ends j 0 - startOf ends j) (omega arith)
 
 -- Lists that agree from a position on agree from a later one on.
-drop-more : (n at to : ℕ) → at + n ≡ to → (xs ys : List ℕ) → drop at xs ≡ drop at ys → drop to xs ≡ drop to ys
+pub drop-more : (n at to : ℕ) → at + n ≡ to → (xs ys : List ℕ) → drop at xs ≡ drop at ys → drop to xs ≡ drop to ys
 drop-more n at to up xs ys e =
     ap (λ (i : ℕ). drop i xs) (sym up) ∙ sym (drop-drop n at xs) ∙ ap (drop n) e ∙ drop-drop n at ys ∙ ap (λ (i : ℕ). drop i ys) up
 
@@ -83,22 +83,30 @@ module _ (p : Pieces) (k : ℕ) (rises : (j : ℕ) → j < suc k → startOf (p 
 
 -- ---- one run more
 
--- At the start nothing is run.
-pub ran-none : (m : Lent) (p : Pieces) → Ran m p 0 m p
-ran-none m p = record {
-  left = refl;
-  read = refl;
-  counted = refl;
-  buffers = λ k h. absurd (omega arith);
-  numbers = λ k h. absurd (omega arith);
-  behind = refl;
-  unused = refl;
-}
+pub length-calls : (p : Pieces) (n : ℕ) → length (callsIn p n) ≡ n
+length-calls p zero = refl
+length-calls p (suc k) = omega (arith, length-append (callsIn p k) (callAt p k ∷ []), length-calls p k)
 
-abbrev called : (list answer : List ℕ) → Call
+-- At the start nothing is run.
+pub ran-none : (m : Lent) (p : Pieces) (from : ℕ) → Ran m p from from m p
+ran-none m p from =
+    let none : drop from (callsIn p from) ≡ [] = drop-of-length-le (callsIn p from) {i = from} (omega (arith, length-calls p from)) in
+    record {
+      left = rw none;
+      read = rw none (sym (append-nil (eventsIn p from)));
+      counted = rw none (omega arith);
+      buffers = λ k l h. absurd (omega arith);
+      numbers = λ k l h. absurd (omega arith);
+      buffers-before = λ k h. refl;
+      numbers-before = λ k h. refl;
+      behind = refl;
+      unused = refl;
+    }
+
+abbrev pub called : (list answer : List ℕ) → Call
 called list answer = record { list = list; answer = answer }
 
-module _ (m₀ : Lent) (input ends stops answers₀ served₀ : List ℕ) (k : ℕ) (rises : (j : ℕ) → j < suc k → startOf stops j ≤ getD stops j 0) (m : Lent) (answers served : List ℕ) (within : getD stops k 0 ≤ length answers) (room : k < length served) (g : Ran m₀ (pieces input ends answers₀ stops served₀) k m (pieces input ends answers stops served)) where
+module _ (m₀ : Lent) (input ends stops answers₀ served₀ : List ℕ) (from k : ℕ) (behind-from : from ≤ k) (rises : (j : ℕ) → j < suc k → startOf stops j ≤ getD stops j 0) (m : Lent) (answers served : List ℕ) (within : getD stops k 0 ≤ length answers) (room : k < length served) (g : Ran m₀ (pieces input ends answers₀ stops served₀) from k m (pieces input ends answers stops served)) where
   abbrev p₀ : Pieces
   p₀ = pieces input ends answers₀ stops served₀
 
@@ -109,7 +117,10 @@ module _ (m₀ : Lent) (input ends stops answers₀ served₀ : List ℕ) (k : �
   c = callAt p₀ k
 
   abbrev cs : List Call
-  cs = callsIn p₀ k
+  cs = drop from (callsIn p₀ k)
+
+  one-more : drop from (callsIn p₀ (suc k)) ≡ cs ++ (c ∷ [])
+  one-more = drop-append-le from (callsIn p₀ k) (c ∷ []) (omega (arith, length-calls p₀ k, behind-from))
 
   -- The buffer is yet as it was handed over.
   same-call : callAt p k ≡ c
@@ -160,13 +171,14 @@ module _ (m₀ : Lent) (input ends stops answers₀ served₀ : List ℕ) (k : �
   unused-one : drop (suc k) (set served k (o .served)) ≡ drop (suc k) served₀
   unused-one = drop-set-lt (suc k) served k (o .served) (omega arith) ∙ drop-more 1 k (suc k) (omega arith) served served₀ (g .unused)
 
-  ran-later : (m′ : Lent) → m′ ≡ o .lent → Ran m₀ p₀ (suc k) m′ (later p k (o .answer) (o .served))
+  ran-later : (m′ : Lent) → m′ ≡ o .lent → Ran m₀ p₀ from (suc k) m′ (later p k (o .answer) (o .served))
   ran-later m′ e = record {
-    left = e ∙ ap (λ (x : Outcome). x .lent) same-outcome ∙ sym (lent-added m₀ cs c);
+    left = e ∙ ap (λ (x : Outcome). x .lent) same-outcome ∙ sym (lent-added m₀ cs c) ∙ sym (ap (lentAfter m₀) one-more);
     read =
         ap (λ (es : List Event). es ++ eventsAt (later p k (o .answer) (o .served)) k) (events-before p k rises (o .answer) (o .served) k (omega arith) ∙ g .read)
-        ∙ ap (λ (es : List Event). events m₀ cs ++ es) read-one
-        ∙ sym (events-added m₀ cs c);
+        ∙ ap (λ (es : List Event). (eventsIn p₀ from ++ events m₀ cs) ++ es) read-one
+        ∙ append-assoc (eventsIn p₀ from) (events m₀ cs) (eventsOf (c .list) (run (lentAfter m₀ cs) (c .list) (c .answer)))
+        ∙ ap (λ (es : List Event). eventsIn p₀ from ++ es) (sym (events-added m₀ cs c) ∙ sym (ap (events m₀) one-more));
     counted = omega (
       arith,
       noted-before p k rises (o .answer) (o .served) k (omega arith),
@@ -174,23 +186,26 @@ module _ (m₀ : Lent) (input ends stops answers₀ served₀ : List ℕ) (k : �
       number-one,
       ap (λ (x : Outcome). x .served) same-outcome,
       served-added m₀ cs c,
+      ap (servedIn m₀) one-more,
     );
-    buffers = λ j h.
+    buffers = λ j f h.
         cases (eqb j k) (λ q. rw (eqb-true j k q) (buffer-one ∙ ap (λ (x : Outcome). x .answer) as-defined))
         (λ q.
         let l : j < k = omega (arith, h, eqb-false j k q) in
-        buffer-before p k rises (o .answer) (o .served) j l ∙ g .buffers j l);
-    numbers = λ j h.
+        buffer-before p k rises (o .answer) (o .served) j l ∙ g .buffers j f l);
+    numbers = λ j f h.
         cases (eqb j k) (λ q. rw (eqb-true j k q) (number-one ∙ ap (λ (x : Outcome). x .served) as-defined))
         (λ q.
         let l : j < k = omega (arith, h, eqb-false j k q) in
-        number-before p k rises (o .answer) (o .served) j l ∙ g .numbers j l);
+        number-before p k rises (o .answer) (o .served) j l ∙ g .numbers j f l);
+    buffers-before = λ j h. buffer-before p k rises (o .answer) (o .served) j (omega (arith, h, behind-from)) ∙ g .buffers-before j h;
+    numbers-before = λ j h. number-before p k rises (o .answer) (o .served) j (omega (arith, h, behind-from)) ∙ g .numbers-before j h;
     behind = behind-one;
     unused = unused-one;
   }
 
   pub ran-more : (m′ : Lent) (answers′ served′ : List ℕ) → RanOne m p k m′ (pieces input ends answers′ stops served′)
-      → Ran m₀ p₀ (k + 1) m′ (pieces input ends answers′ stops served′)
+      → Ran m₀ p₀ from (k + 1) m′ (pieces input ends answers′ stops served′)
   ran-more m′ answers′ served′ r =
       let e : k + 1 ≡ suc k = omega arith in
       rw (e, r .answered, r .noted) (ran-later m′ (r .left))

@@ -48,9 +48,13 @@ endGood size ends k = ltb k (length ends) && (leb (startOf ends k) (getD ends k 
 unfoldable pub ready : (size : ℕ) (ends : List ℕ) (space : ℕ) (stops : List ℕ) (room k : ℕ) → Bool
 ready size ends space stops room k = ltb k room && (endGood size ends k && endGood space stops k)
 
+-- So many runs, from the first on, are ready.
+abbrev pub AllReady : (size : ℕ) (ends : List ℕ) (space : ℕ) (stops : List ℕ) (room n : ℕ) → Type 0
+AllReady size ends space stops room n = (k : ℕ) → k < n → ready size ends space stops room k ≡ true
+
 -- So many runs are performed: all up to the first that is not ready.
 pub record Runs (size : ℕ) (ends : List ℕ) (space : ℕ) (stops : List ℕ) (room n : ℕ) : Type 0 where
-  pub all : (k : ℕ) → k < n → ready size ends space stops room k ≡ true
+  pub all : AllReady size ends space stops room n
   pub last : ready size ends space stops room n ≡ false
 
 -- ---- the history

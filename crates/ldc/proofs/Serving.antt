@@ -2,6 +2,7 @@
 --   ServeCases   serving, by cases
 --   Keeps        every request keeps a sound store sound
 --   KeepsWhole   and every place whole
+--   KeepsFits    and all keys of marks and links below 2^64
 --   Threshold    no request changes the threshold
 --   Replies      replies are short, and say their length and result
 --   Splits       the requests of a list of bytes have bytes for bodies
@@ -11,6 +12,7 @@
 pub mod ServeCases
 pub mod Keeps
 pub mod KeepsWhole
+pub mod KeepsFits
 pub mod Threshold
 pub mod Replies
 pub mod Splits

@@ -16,6 +16,7 @@
 --   ReadOrder    what is read is valid
 --   TakenOut     a level with one table taken out and read after it
 --   New          a new store is sound
+--   Fits         marks and links with keys below 2^64
 pub mod CardFacts
 pub mod Changes
 pub mod Sound
@@ -33,3 +34,4 @@ pub mod Order
 pub mod ReadOrder
 pub mod TakenOut
 pub mod New
+pub mod Fits

@@ -20,9 +20,9 @@ use Rattle.ldc.specs.Read.{valueOf, scanBody}
 use Rattle.ldc.specs.Tidy.{Slice, Step, idle, refused, moved, linked, merged, tidyStep}
 use Rattle.ldc.specs.Steps.{linkTo}
 use Rattle.ldc.specs.Serve.{serve}
-use Rattle.ldc.specs.Run.{Outcome, run, split, make}
+use Rattle.ldc.specs.Run.{Outcome, run, split}
 
--- ---- a history: runs from a store made anew
+-- ---- a history: runs, one after the other
 
 -- A run's request list and answer buffer.
 pub record Call : Type 0 where
@@ -129,20 +129,52 @@ abbrev pub unmerged : Store → List Unmerged → List Request → List Unmerged
 unmerged s us [] = us
 unmerged s us (r ∷ rs) = unmerged (serve s r .store) (afterStep s (stepOf s r) us) rs
 
--- ---- demand 3
+-- ---- where a history starts
+
+-- A map, a slice list, and the store from which the rules are worked through. For what is lent at the start the three must agree: the map
+-- has the values that the store has, and the list the slices that hang on its places.
+pub record Start : Type 0 where
+  pub values : List Entry
+  pub slices : List Unmerged
+  pub store : Store
+
+-- A store made anew: no values, no slices. The slice list is worked out over other places, as many, with any bytes: nothing of it is read
+-- from the store that was run.
+abbrev pub newStart : (threshold : ℕ) → (places : List (List ℕ)) → Start
+newStart t places = record { values = []; slices = []; store = newStore t places }
 
 abbrev pub requestsIn : List Event → List Request
 requestsIn [] = []
 requestsIn (e ∷ es) = e .request ∷ requestsIn es
 
+-- The map fed all events.
+abbrev pub fedAll : List Event → List Entry → List Entry
+fedAll [] m = m
+fedAll (e ∷ es) m = fedAll es (fed e m)
+
+-- The store after all of some requests.
+abbrev pub serveList : Store → List Request → Store
+serveList s [] = s
+serveList s (r ∷ rs) = serveList (serve s r .store) rs
+
+-- The start that a history leaves for what follows it.
+unfoldable pub startAfter : Start → List Event → Start
+startAfter x es = record {
+  values = fedAll es (x .values);
+  slices = unmerged (x .store) (x .slices) (requestsIn es);
+  store = serveList (x .store) (requestsIn es);
+}
+
+-- ---- demand 3
+
 -- The link to an unmerged slice: its number is that of the entries in its range of the bytes held when linked.
 abbrev pub linkOf : Unmerged → Link
 linkOf u = linkTo (entries (u .held)) (u .slice)
 
--- The claim about the replies and the memory at the end of a history, given the slice list: `m` is what is lent at the end.
-pub record Holds (m : Lent) (threshold : ℕ) (es : List Event) (us : List Unmerged) : Type 0 where
+-- The claim about the replies and the memory at the end of a history from a start, given the slice list: `m` is what is lent at the end.
+pub record Holds (x : Start) (es : List Event) (us : List Unmerged) (m : Lent) : Type 0 where
   -- look-ups and scans answer as the latest-write map
-  pub answered : Answered [] es
+  pub answered : Answered (x .values) es
   -- the memory is that of a sound store: every word of it is where and what the rules allow
   pub sound : broken m ≡ []
   -- a card says frozen exactly if the list names the place
@@ -152,16 +184,11 @@ pub record Holds (m : Lent) (threshold : ℕ) (es : List Event) (us : List Unmer
   -- a card's links are the slices that hang on its place, oldest first, their numbers too: on every place, so none hangs where no live table stands
   pub carried : (p : ℕ) → links (storeOf m) p ≡ map linkOf (keep (hangsOn p) us)
   -- never more than T slices hang on a table, nor links on its card
-  pub few : (p : ℕ) → length (keep (hangsOn p) us) ≤ threshold
-  pub fewLinks : (p : ℕ) → length (links (storeOf m) p) ≤ threshold
+  pub few : (p : ℕ) → length (keep (hangsOn p) us) ≤ x .store .threshold
+  pub fewLinks : (p : ℕ) → length (links (storeOf m) p) ≤ x .store .threshold
 
--- Demand 3 of the history that begins with making a store over `m` with threshold `t`. The slice list is worked out over other places,
--- as many, with any bytes: nothing of it is read from the store that was run.
-pub record Demand3 (m : Lent) (t : ℕ) (calls : List Call) (places : List (List ℕ)) : Type 0 where
+-- Demand 3 of a history over the lent memory `m`, from a start that agrees with it.
+pub record Demand3 (x : Start) (m : Lent) (calls : List Call) : Type 0 where
   -- no request that was served is left out
-  pub complete : length (events (make m t .lent) calls) ≡ servedIn (make m t .lent) calls
-  pub holds : Holds
-      (lentAfter (make m t .lent) calls)
-      t
-      (events (make m t .lent) calls)
-      (unmerged (newStore t places) [] (requestsIn (events (make m t .lent) calls)))
+  pub complete : length (events m calls) ≡ servedIn m calls
+  pub holds : Holds x (events m calls) (startAfter x (events m calls) .slices) (lentAfter m calls)

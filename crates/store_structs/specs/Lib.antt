@@ -1,3 +1,5 @@
 -- What a reader of `store_structs` must believe besides the definition of the store.
---   Over   what a call over cards as structs returns and leaves, with working rows beside them
+--   Over    what a call over cards as structs returns and leaves, with working rows beside them
+--   Saved   the same of saving and opening
 pub mod Over
+pub mod Saved

@@ -21,7 +21,7 @@ use Rattle.table.proofs.Bounds.{keys-below}
 use Rattle.table.proofs.Writes.{length-entryBytes}
 
 -- What stands behind the bytes at a place.
-behind : (s : List ℕ) (at : ℕ) (a r : List ℕ) (n : ℕ) → length a ≡ n → drop at s ≡ a ++ r → drop (at + n) s ≡ r
+pub behind : (s : List ℕ) (at : ℕ) (a r : List ℕ) (n : ℕ) → length a ≡ n → drop at s ≡ a ++ r → drop (at + n) s ≡ r
 behind s at a r n h e = sym (drop-drop n at s) ∙ ap (drop n) e ∙ ap (λ k. drop k (a ++ r)) (sym h) ∙ drop-append-seam a r
 
 -- A kind and bytes taken from an entry make it again, and are of its form.
@@ -36,15 +36,15 @@ form-of (some v) h = rw (le-leb entryHead (entryHead + length v) (omega arith), 
 form-of none h = refl
 
 -- What stands at a place where the bytes of an entry are.
-record Shown (s : List ℕ) (at : ℕ) (e : Entry) (r : List ℕ) : Type 0 where
-  len : lengthAt s at ≡ entryLength e
-  kind : kindAt s at ≡ kindOf (e .value)
-  key : keyAt s at ≡ e .key
-  form : entryForm (kindAt s at) (lengthAt s at) ≡ true
-  entry : entryAt s at ≡ e
-  next : drop (at + lengthAt s at) s ≡ r
+pub record Shown (s : List ℕ) (at : ℕ) (e : Entry) (r : List ℕ) : Type 0 where
+  pub len : lengthAt s at ≡ entryLength e
+  pub kind : kindAt s at ≡ kindOf (e .value)
+  pub key : keyAt s at ≡ e .key
+  pub form : entryForm (kindAt s at) (lengthAt s at) ≡ true
+  pub entry : entryAt s at ≡ e
+  pub next : drop (at + lengthAt s at) s ≡ r
 
-shown-entry : (s : List ℕ) (at : ℕ) (e : Entry) (r : List ℕ) → length (valueBytes (e .value)) ≤ valueLimit → e .key < 2 ^ 64
+pub shown-entry : (s : List ℕ) (at : ℕ) (e : Entry) (r : List ℕ) → length (valueBytes (e .value)) ≤ valueLimit → e .key < 2 ^ 64
     → drop at s ≡ entryBytes e ++ r → Shown s at e r
 unfolding entryBytes entryLength entryAt
 shown-entry s at e r hv hk h =
@@ -140,7 +140,7 @@ unfolding tableBytes tableLength
 length-tableBytes es h = simp (length-append, length-bytesOf, length-zeros) (omega arith)
 
 -- They are bytes.
-bytes-entries : (es : List Entry) → Values es → Bytes (entriesBytes es)
+pub bytes-entries : (es : List Entry) → Values es → Bytes (entriesBytes es)
 unfolding entriesBytes entryBytes
 bytes-entries [] vs = λ i. omega arith
 bytes-entries (e ∷ es) vs = search (bytes-append, bytes-bytesOf, bytes-entries es (vs .1), vs .0 .1) depth 8

@@ -23,7 +23,7 @@ use Rattle.table.proofs.Entries.{length-entries}
 
 module _ (s : List ℕ) (b : Bytes s) where
   -- The bytes of the entry that stands at a place, and what stands behind it.
-  entry-back : (at : ℕ) → entryForm (kindAt s at) (lengthAt s at) ≡ true → at + lengthAt s at ≤ length s
+  pub entry-back : (at : ℕ) → entryForm (kindAt s at) (lengthAt s at) ≡ true → at + lengthAt s at ≤ length s
       → (entryBytes (entryAt s at) ++ drop (at + lengthAt s at) s ≡ drop at s)
       × ((length (valueBytes (entryAt s at .value)) ≤ valueLimit) × Bytes (valueBytes (entryAt s at .value)))
   unfolding entryAt

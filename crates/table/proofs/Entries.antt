@@ -14,7 +14,7 @@ use Rattle.table.proofs.Tests.{cases}
 use Rattle.table.proofs.Position.{table-good, memory-good}
 use Rattle.table.proofs.Found.{entryAt-key}
 
-length-entriesAt : (n : ℕ) (s : List ℕ) (at : ℕ) → length (entriesAt n s at) ≡ n
+pub length-entriesAt : (n : ℕ) (s : List ℕ) (at : ℕ) → length (entriesAt n s at) ≡ n
 unfolding entriesAt
 length-entriesAt zero s at = refl
 length-entriesAt (suc n) s at = ap suc (length-entriesAt n s (at + lengthAt s at))

@@ -36,6 +36,12 @@ pub const BROKEN_LIST: u64 = 4;
 
 pub const UNSOUND: u64 = 5;
 
+// Opening: bytes not of the form of a saved book (document 02, note 4).
+pub const NOT_A_BOOK: u64 = 21;
+
+// Opening: an area with fewer places than saved.
+pub const FEWER_PLACES: u64 = 22;
+
 // ---- steps of a tidy, as its reply names them
 
 pub const NO_STEP: u16 = 0;

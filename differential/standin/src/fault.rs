@@ -1,5 +1,6 @@
 //! The faults that can be planted in a run: STANDIN_FAULT names one of the list below, a slip of the second implementation
-//! (in check, too), or `result:FROM:TO` or `number:FROM:TO`. STANDIN_RARE=N plants it in one of N runs only.
+//! (in every call), or `result:FROM:TO` or `number:FROM:TO`. STANDIN_RARE=N plants it in one of N runs only. Those of saving and
+//! opening are in `fault_saved`.
 
 use reference::lent::{Row, LINK_NUMBER, ROW_COUNT, ROW_LINKS, ROW_WORDS};
 use reference::slip::Slip;
@@ -23,7 +24,7 @@ fn variable(name: &str) -> String {
     std::env::var(name).unwrap_or_default()
 }
 
-fn fault() -> &'static str {
+pub fn fault() -> &'static str {
     static FAULT: OnceLock<String> = OnceLock::new();
     FAULT.get_or_init(|| variable("STANDIN_FAULT"))
 }
@@ -35,7 +36,7 @@ pub fn slip() -> Option<Slip> {
 }
 
 /// Whether this run is one of those to be spoilt.
-fn due() -> bool {
+pub fn due() -> bool {
     static RARE: OnceLock<u64> = OnceLock::new();
     static RUNS: AtomicU64 = AtomicU64::new(0);
     let rare = *RARE.get_or_init(|| variable("STANDIN_RARE").parse().unwrap_or(1));
@@ -44,7 +45,7 @@ fn due() -> bool {
 
 /// Plants the fault that was asked for, if any.
 pub fn plant(done: &mut Done) {
-    if fault().is_empty() || slip().is_some() || !due() {
+    if fault().is_empty() || slip().is_some() || crate::fault_saved::has(fault()) || !due() {
         return;
     }
     if let [what, from, to] = fault().split(':').collect::<Vec<_>>()[..] {
@@ -79,7 +80,7 @@ impl Done<'_> {
 }
 
 /// Flips a bit just behind a piece, or just before it. That is what no call may do: the tests lend memory with guards there.
-fn beside<T>(piece: &mut [T], behind: bool) {
+pub fn beside<T>(piece: &mut [T], behind: bool) {
     let elements = piece.as_mut_ptr_range();
     let (end, start) = (elements.end as *mut u8, elements.start as *mut u8);
     // SAFETY: none where there are no guards; this is the fault.
@@ -152,7 +153,7 @@ const FAULTS: &[Fault] = &[
     ("empty_list_4", |done| done.number |= 4 * u64::from(done.list.is_empty())),
 ];
 
-fn spoil_byte(byte: Option<&mut u8>) {
+pub fn spoil_byte(byte: Option<&mut u8>) {
     if let Some(byte) = byte {
         *byte ^= 0xFF;
     }

@@ -1,9 +1,11 @@
-//! A stand-in for the proved static library: the three exported functions over the second implementation, with a fault
+//! A stand-in for the proved static library: the exported functions over the second implementation, with a fault
 //! planted on request. It shows which tests over the library would see which fault; it is no part of what is delivered.
 
 mod fault;
+mod fault_saved;
 
 use fault::Done;
+use fault_saved::{plant_in_opening, plant_in_saving, OpeningDone, SavingDone};
 use reference::implementation::{Implementation, Reference};
 use reference::lent::{Lent, Row};
 use std::slice::from_raw_parts_mut;
@@ -82,6 +84,41 @@ exported!(
         let number = u64::from(ran.number);
         let mut done = Done { area, cards, lists, head, memory, list, answers, outcome, number };
         fault::plant(&mut done);
+        done.number
+    }
+);
+
+exported!(zilgwern_save(buffer: *mut u8, room: usize, outcome: *mut [u64; 2]), |raw| {
+    let buffer = from_raw_parts_mut(buffer, room);
+    let saved = Reference { slip: fault::slip() }.save(&raw.read(), buffer);
+    let (memory, outcome) = (&mut *raw.memory, &mut *outcome);
+    *outcome = [u64::from(saved.letter), saved.length as u64];
+    let mut done = SavingDone { memory, buffer, outcome, number: u64::from(saved.number) };
+    plant_in_saving(&mut done);
+    done.number
+});
+
+exported!(
+    zilgwern_open(book: *mut u8, bytes: usize, working: *mut Row, count: usize, letter: *mut u64),
+    |raw| {
+        let (book, working) = (from_raw_parts_mut(book, bytes), from_raw_parts_mut(working, count));
+        let before = raw.read();
+        let mut lent = before.clone();
+        let (number, found) = Reference { slip: fault::slip() }.open(&mut lent, book, working);
+        raw.write(&lent);
+        *letter = u64::from(found);
+        let mut done = OpeningDone {
+            before: &before,
+            area: &mut *raw.area,
+            cards: &mut *raw.cards,
+            head: &mut *raw.head,
+            memory: &mut *raw.memory,
+            book,
+            working,
+            letter: &mut *letter,
+            number: u64::from(number),
+        };
+        plant_in_opening(&mut done);
         done.number
     }
 );

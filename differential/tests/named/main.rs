@@ -1,5 +1,6 @@
 //! Tests by name: short histories with expected answers written out by hand.
 
+mod book_form;
 mod choices;
 mod client;
 mod examples;
@@ -7,6 +8,8 @@ mod letters;
 mod longer_values;
 mod merge_by_weight;
 mod numbers;
+mod opening;
 mod reading;
 mod refusals;
+mod saving;
 mod steps;

@@ -19,7 +19,7 @@ fn record(store: &mut Store, key: Key, code: &str) -> Result<(), Error> {
 }
 
 pub fn main() -> Result<(), Error> {
-    // The host owns the memory and may keep it as bytes; the store borrows it.
+    // The host owns the memory; the store borrows it.
     let mut memory = Memory::zeroed(PLACES);
     let mut store = Store::make(memory.lend(), 4)?;
     for joint in 0..100 {
@@ -46,10 +46,14 @@ pub fn main() -> Result<(), Error> {
     }
     println!("{count} findings");
 
-    // The same memory, opened again later, is the same store.
+    // Switched off between jobs: the area and the saved book are kept, and opened again over an area with more places.
+    let book = store.save()?;
     drop(store);
-    let kept = memory.to_bytes();
-    let mut again = Store::open_owned(Memory::from_bytes(&kept)?)?;
+    let mut larger = Memory::zeroed(2 * PLACES);
+    larger.area[..memory.area.len()].copy_from_slice(&memory.area);
+    let mut working = larger.cards.clone();
+    let mut again = Store::open_saved(larger.lend(), &book, &mut working)?;
     assert_eq!(again.range(Key::LEAST, Key::GREATEST).count(), count);
+    println!("opened again with {} places free", again.report()?.free);
     Ok(())
 }

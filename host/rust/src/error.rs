@@ -82,12 +82,16 @@ pub enum Refused {
     Sizes,
     /// 2: the threshold is outside 1 to 8.
     Threshold,
-    /// 3: the answer buffer has under 1,024 bytes.
+    /// 3: the answer buffer has under 1,024 bytes, or the buffer to save to fewer than the saved book.
     ShortAnswer,
     /// 4: the list is over 65,536 bytes or its lengths do not end at its end.
     BrokenList,
     /// 5: the store is not sound; this is the first broken rule, in the order A to G.
     NotSound(Rule),
+    /// 21: the bytes are no saved book.
+    NotABook,
+    /// 22: the area has fewer places than the saved book names.
+    FewerPlaces,
 }
 
 impl Refused {
@@ -98,6 +102,8 @@ impl Refused {
             2 => Refused::Threshold,
             3 => Refused::ShortAnswer,
             4 => Refused::BrokenList,
+            21 => Refused::NotABook,
+            22 => Refused::FewerPlaces,
             _ => Refused::NotSound(Rule::of_letter(letter)),
         })
     }
@@ -110,6 +116,8 @@ impl Refused {
             Refused::ShortAnswer => 3,
             Refused::BrokenList => 4,
             Refused::NotSound(_) => 5,
+            Refused::NotABook => 21,
+            Refused::FewerPlaces => 22,
         }
     }
 }
@@ -122,12 +130,16 @@ impl fmt::Display for Refused {
                 write!(out, "area not 16 to 4,096 whole places, or cards or lists not as many")
             }
             Refused::Threshold => write!(out, "threshold outside 1 to 8"),
-            Refused::ShortAnswer => write!(out, "answer buffer under 1,024 bytes"),
+            Refused::ShortAnswer => {
+                write!(out, "answer buffer under 1,024 bytes, or save buffer shorter than the book")
+            }
             Refused::BrokenList => write!(out, "request list too long or broken"),
             Refused::NotSound(rule) => {
                 let (letter, words) = (rule.letter(), rule.words());
                 write!(out, "store not sound, first broken rule {letter}: {words}")
             }
+            Refused::NotABook => write!(out, "bytes that are not those of a saved book"),
+            Refused::FewerPlaces => write!(out, "area with fewer places than the saved book"),
         }
     }
 }

@@ -36,8 +36,23 @@
 //! assert!(error.to_string().starts_with("1: "));
 //! ```
 //!
-//! [`Store::range`] goes over any number of values, [`Store::view`] shows what stands where, and [`Memory::to_bytes`] gives
-//! the bytes to keep a store by. `examples/recorder.rs` puts it together.
+//! A store is kept by its area and its saved book, and goes on later, over more places if need be:
+//!
+//! ```
+//! use zilgwern::Store;
+//!
+//! let mut store = Store::owned(16, 4)?;
+//! store.put(7, b"kept")?;
+//! let (mut area, book) = (store.area().to_vec(), store.save()?);
+//! area.resize(32 * 1024, 0);
+//! let mut again = Store::open_saved_owned(area, &book)?;
+//! assert_eq!(again.look_up(7)?.as_deref(), Some(&b"kept"[..]));
+//! assert_eq!(again.report()?.free, 32);
+//! # Ok::<(), zilgwern::Error>(())
+//! ```
+//!
+//! [`Store::range`] goes over any number of values, and [`Store::view`] shows what stands where. `examples/recorder.rs` puts it
+//! together.
 
 #![deny(missing_docs, unsafe_op_in_unsafe_fn)]
 
@@ -49,6 +64,7 @@ mod memory;
 mod range;
 mod reply;
 mod request;
+mod saved;
 mod store;
 mod view;
 
@@ -59,11 +75,15 @@ pub use memory::{Memory, Pieces, Row};
 pub use range::Range;
 pub use reply::{Page, Reply, Report, Step, Stepped};
 pub use request::Request;
+pub use saved::most_saved_bytes;
 pub use store::Store;
 pub use view::{Entry, Link, Table, View};
 
 /// The fewest and the most places of a store.
 pub const PLACES: std::ops::RangeInclusive<usize> = 16..=4096;
+
+/// The bytes of a place.
+pub const PLACE_BYTES: usize = 1024;
 
 /// The longest value.
 pub const VALUE_BYTES: usize = 51;

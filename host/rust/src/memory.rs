@@ -1,13 +1,14 @@
 //! The memory that a store lives in, owned or borrowed.
 
 use crate::bytes::{pair, word};
-use crate::{Refused, PLACES};
+use crate::{Refused, PLACES, PLACE_BYTES};
 use zilgwern_sys::{Head, Table, CARD_LINKS, ROW_WORDS};
 
 pub use zilgwern_sys::Row;
 
 pub(crate) const LEVELS: usize = 4;
 pub(crate) const TABLE_BYTES: usize = size_of::<Table>();
+const _: () = assert!(TABLE_BYTES == PLACE_BYTES);
 const ROW_BYTES: usize = size_of::<Row>();
 const HEAD_BYTES: usize = size_of::<Head>();
 
@@ -91,7 +92,8 @@ impl Memory {
     }
 
     /// The plain bytes of what is lent, piece after piece: area, cards, lists, head, memory table; then a word that says their
-    /// form, 2. Numbers are little-endian.
+    /// form, 2. Numbers are little-endian. This is an image of the memory, any memory, as it lies; to keep a store, keep its area
+    /// and what [`Store::save`](crate::Store::save) gives.
     ///
     /// ```
     /// use zilgwern::{Memory, Refused, Store};
@@ -190,6 +192,13 @@ pub(crate) enum Held<'a> {
 }
 
 impl Held<'_> {
+    pub(crate) fn area(&self) -> &[u8] {
+        match self {
+            Held::Owned(memory) => &memory.area,
+            Held::Borrowed(pieces) => pieces.area,
+        }
+    }
+
     pub(crate) fn copy(&self) -> Memory {
         match self {
             Held::Owned(memory) => Memory::clone(memory),

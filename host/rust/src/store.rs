@@ -11,7 +11,7 @@ const MOST_ROOM: usize = 1 << 18;
 
 /// A store in memory that it owns or borrows.
 pub struct Store<'a> {
-    held: Held<'a>,
+    pub(crate) held: Held<'a>,
 }
 
 impl Store<'static> {
@@ -69,9 +69,14 @@ impl<'a> Store<'a> {
         Refused::of(number, letter)
     }
 
-    /// The memory that the store lives in, as it is now; to keep a store, keep this.
+    /// The memory that the store lives in, as it is now. To keep a store, keep its area and its saved book, [`Store::save`].
     pub fn memory(&self) -> Memory {
         self.held.copy()
+    }
+
+    /// The places, 1,024 bytes each.
+    pub fn area(&self) -> &[u8] {
+        self.held.area()
     }
 
     /// What stands where: levels, tables, links and frozen places.

@@ -300,7 +300,7 @@ fn every_refusal_has_its_line() {
     for rule in Rule::ALL {
         assert!(PAGE.contains(&format!("\n| {} | ", rule.letter())), "{rule:?}");
     }
-    for number in (0..=5).chain(16..=20).chain([64, 65]) {
+    for number in (0..=5).chain(16..=20).chain([21, 22, 64, 65]) {
         assert!(PAGE.contains(&format!("\n| {number} | ")), "{number}");
     }
 }

@@ -21,6 +21,9 @@ pub type Table = [u8; 1024];
 /// What a run gives back beside its number: the letter of the first broken rule or 0, requests served, bytes written.
 pub type Outcome = [u64; 3];
 
+/// What saving gives back beside its number: the letter of the first broken rule or 0, and the length of the saved book.
+pub type Saved = [u64; 2];
+
 /// Where the five pieces of a store's memory stand, and how long they are.
 #[derive(Clone, Copy, Debug)]
 pub struct Pieces {
@@ -51,6 +54,8 @@ exported! {
     zilgwern_make(threshold: u64);
     zilgwern_check(letter: *mut u64);
     zilgwern_run(list: *const u8, list_count: usize, answer: *mut u8, answer_count: usize, outcome: *mut Outcome);
+    zilgwern_save(buffer: *mut u8, buffer_count: usize, saved: *mut Saved);
+    zilgwern_open(book: *const u8, book_count: usize, working: *mut Row, working_count: usize, letter: *mut u64);
 }
 
 /// Calls such a function with the pieces and its own arguments.
@@ -95,5 +100,25 @@ impl Pieces {
         let (list_count, answer_count) = (list.len(), answers.len());
         let (list, answers) = (list as *const u8, answers as *mut u8);
         call!(self, zilgwern_run(list, list_count, answers, answer_count, outcome))
+    }
+
+    /// Writes the book as bytes to the front of the buffer: 0, 1, 3 or 5.
+    ///
+    /// # Safety
+    ///
+    /// As for `make`, with the buffer and what is given back among the pointers; but the pieces are only read.
+    pub unsafe fn save(self, buffer: *mut [u8], saved: *mut Saved) -> u64 {
+        call!(self, zilgwern_save(buffer as *mut u8, buffer.len(), saved))
+    }
+
+    /// Opens a saved book over the area, which is only read; the other pieces become the book: 0, 1, 5, 21 or 22.
+    ///
+    /// # Safety
+    ///
+    /// As for `make`, with the saved book, the working rows and the letter among the pointers; the saved book is only read.
+    pub unsafe fn open(self, book: *const [u8], working: *mut [Row], letter: *mut u64) -> u64 {
+        let (book_count, working_count) = (book.len(), working.len());
+        let (book, working) = (book as *const u8, working as *mut Row);
+        call!(self, zilgwern_open(book, book_count, working, working_count, letter))
     }
 }

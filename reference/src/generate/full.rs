@@ -1,8 +1,8 @@
-//! A store that is full of tables and links: what a benchmark of the check needs, at any size.
+//! Stores that are full of tables and links, at any size: what a benchmark of the check needs, and one with the longest book.
 
 use super::random::Random;
 use super::requests::any_value;
-use crate::limits::{PLACE_BYTES, TABLE_ENTRIES};
+use crate::limits::{CARD_LINKS, PLACE_BYTES, TABLE_ENTRIES, VALUE_BYTES};
 use crate::store::{new_store, Link, Place, Store};
 use crate::table::{Entries, Entry, Key};
 
@@ -41,6 +41,35 @@ pub fn full(random: &mut Random, places: usize) -> Store {
     store
 }
 
+/// Groups of three places on level 3: two live tables with eight links each, one for each entry of the frozen one, as many as there
+/// is room for. The memory has sixteen of the longest entries. No book of as many places is longer by much.
+pub fn most_links(random: &mut Random, places: usize) -> Store {
+    let mut store = new_store(vec![0; places * PLACE_BYTES], CARD_LINKS);
+    for group in 0..places / 3 {
+        let (first, place) = (3 * group, 3 * group + 2);
+        let low = (2 * group) as Key * PLOT;
+        let frozen = spread(random, low, 2 * PLOT / TABLE_ENTRIES as Key);
+        let keys: Vec<Key> = frozen.keys().copied().collect();
+        for (on, own) in keys.chunks(CARD_LINKS).enumerate() {
+            let low = low + on as Key * PLOT;
+            let table = spread(random, low, PLOT / TABLE_ENTRIES as Key);
+            store.settle(first + on, table);
+            store.levels[3].push(first + on);
+            if let Place::Live { links, .. } = &mut store.places[first + on] {
+                let link = |key: &Key| Link { place, low: *key, high: *key, number: 1 };
+                links.extend(own.iter().map(link));
+            }
+        }
+        store.write_bytes(place, &frozen);
+        store.places[place] = Place::Frozen { table: frozen };
+    }
+    let value = |random: &mut Random| Entry::Value(random.bytes(VALUE_BYTES));
+    store.memory = (0..TABLE_ENTRIES).map(|key| (key as Key, value(random))).collect();
+    store.marks = [Some(Key::MAX), Some(0)];
+    store.cursor = places - 1;
+    store
+}
+
 /// Sixteen values, one in each step from a key on.
 fn spread(random: &mut Random, low: Key, step: Key) -> Entries {
     let key = |number: usize, random: &mut Random| {
@@ -62,6 +91,16 @@ mod tests {
             let store = full(&mut Random::new(places as u64), places);
             assert!(store.free() < LIVE + FROZEN);
             assert!(check(&store.encode()).broken.is_empty());
+        }
+    }
+
+    #[test]
+    fn a_store_with_most_links_is_sound() {
+        for places in [16, 18, 300] {
+            let store = most_links(&mut Random::new(places as u64), places);
+            assert!(store.free() < 3);
+            let all = store.levels[3].iter().all(|place| store.live(*place).1.len() == CARD_LINKS);
+            assert!(all && check(&store.encode()).broken.is_empty());
         }
     }
 }

@@ -1,5 +1,7 @@
-//! Seeded generators: request lists, arbitrary sound stores, broken lists, damaged stores and the letters they are refused by.
+//! Seeded generators: request lists, arbitrary sound stores, broken lists, damaged stores and the letters they are refused by,
+//! saved books and what saving and opening must say of them.
 
+pub mod book;
 pub mod broken;
 pub mod damage;
 mod damaged_links;
@@ -7,10 +9,14 @@ mod damaged_numbers;
 pub mod features;
 pub mod full;
 pub mod keys;
+pub mod opening;
 pub mod plan;
 pub mod planted;
 pub mod profile;
 pub mod random;
 pub mod requests;
+pub mod saving;
+pub mod spoiled;
+pub mod told;
 pub mod vectors;
 mod weigh;

@@ -1,5 +1,7 @@
 //! A small seeded generator of numbers (splitmix64), so that every test run is the same.
 
+use crate::lent::Lent;
+
 /// The state of the generator.
 #[derive(Clone, Debug)]
 pub struct Random(u64);
@@ -45,4 +47,15 @@ pub fn mix(number: u64) -> u64 {
     let once = (number ^ (number >> 30)).wrapping_mul(0xBF58_476D_1CE4_E5B9);
     let twice = (once ^ (once >> 27)).wrapping_mul(0x94D0_49BB_1331_11EB);
     twice ^ (twice >> 31)
+}
+
+/// Lent memory of so many places and any content.
+pub fn any_lent(random: &mut Random, places: usize) -> Lent {
+    let mut lent = Lent::zeroed(places);
+    lent.area = random.bytes(lent.area.len());
+    let words = lent.cards.iter_mut().flatten().chain(lent.head.iter_mut());
+    words.for_each(|word| *word = random.word());
+    lent.lists.fill_with(|| random.word() as u16);
+    lent.memory.fill_with(|| random.word() as u8);
+    lent
 }

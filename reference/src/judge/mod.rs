@@ -110,6 +110,13 @@ impl Judge {
         Ok(followed)
     }
 
+    /// Follows an opening of the saved book over so many places: the history goes on, and the added places are free.
+    pub fn follow_opening(&mut self, places: usize, after: &Lent) -> Result<(), String> {
+        self.working.grow(places);
+        self.working.compare(after)?;
+        self.compare_whole(after)
+    }
+
     fn compare_whole(&self, after: &Lent) -> Result<(), String> {
         let verdict = check(after);
         if verdict.number != 0 {

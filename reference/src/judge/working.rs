@@ -55,6 +55,12 @@ impl Working {
         }
     }
 
+    /// Adds free places behind the others; all else is kept.
+    pub(super) fn grow(&mut self, places: usize) {
+        assert!(places >= self.tables.len(), "no place goes at an opening");
+        self.tables.resize(places, None);
+    }
+
     /// Inserts or replaces a memory entry; false if there is none to replace and no room for one.
     pub(super) fn write(&mut self, key: u64, value: Option<&[u8]>) -> bool {
         let value = value.map(<[u8]>::to_vec);

@@ -11,4 +11,6 @@ mod mutants;
 mod plans;
 mod program;
 mod refusals;
+mod saved_bytes;
+mod saving;
 mod weights;

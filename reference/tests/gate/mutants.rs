@@ -1,17 +1,21 @@
 //! Every planted slip is caught: by the judge alone where demand 3 can see it, and by comparison. Slips in the letter show on
-//! damaged stores alone, and are also caught by the letter that the plan of the damages says.
+//! damaged stores alone, and are also caught by the letter that the plan of the damages says; slips in refused savings and openings
+//! show there alone, and are also caught by plans of these.
 
 use crate::common::{announce, on_two_threads};
 use reference::generate::keys::Keys;
+use reference::generate::opening::Opening;
 use reference::generate::plan::Plan;
 use reference::generate::planted::planted;
 use reference::generate::profile::{Source, PROFILES};
 use reference::generate::random::Random;
 use reference::generate::requests::report;
+use reference::generate::saving::Saving;
 use reference::implementation::{Implementation, Reference};
 use reference::lent::Lent;
 use reference::letters::{compare_with_plan, compare_with_reference};
 use reference::limits::ANSWER_ROOM;
+use reference::reopened::{compare_open, compare_save};
 use reference::slip::Slip;
 use reference::trial::{compare, Eyes, Trial, UNTOUCHED};
 
@@ -26,6 +30,9 @@ const UNSEEN_BY_JUDGE: &[(Slip, &str)] = &[
     (Slip::MemoryJudgedBeforePlaces, "demand 3 does not measure runs that are refused"),
     (Slip::FrozenJudgedWithLinks, "demand 3 does not measure runs that are refused"),
     (Slip::LastBrokenGiven, "demand 3 does not measure runs that are refused"),
+    (Slip::OpenWritesBeforeCheck, "demand 3 does not measure openings that are refused"),
+    (Slip::SavedListCountAnyPlaces, "demand 3 does not measure openings that are refused"),
+    (Slip::SaveJudgesRoomFirst, "demand 3 does not measure savings that are refused"),
     (
         Slip::CursorAtTakenPlace,
         "the place just taken is not free, so the next one taken is the same",
@@ -44,11 +51,18 @@ const UNSEEN_BY_BOOK: &[(Slip, &str)] = &[
     (Slip::MemoryJudgedBeforePlaces, "the judge follows no run that is refused"),
     (Slip::FrozenJudgedWithLinks, "the judge follows no run that is refused"),
     (Slip::LastBrokenGiven, "the judge follows no run that is refused"),
+    (Slip::OpenWritesBeforeCheck, "the judge follows no opening that is refused"),
+    (Slip::SavedListCountAnyPlaces, "the judge follows no opening that is refused"),
+    (Slip::SaveJudgesRoomFirst, "the judge follows no saving that is refused"),
 ];
 
 /// Slips in the letter, which show on damaged stores alone.
 const IN_THE_LETTER: [Slip; 3] =
     [Slip::MemoryJudgedBeforePlaces, Slip::FrozenJudgedWithLinks, Slip::LastBrokenGiven];
+
+/// Slips in what is refused of savings and openings.
+const IN_SAVING: [Slip; 3] =
+    [Slip::OpenWritesBeforeCheck, Slip::SavedListCountAnyPlaces, Slip::SaveJudgesRoomFirst];
 
 /// Histories that a mutant may live through before it counts as not caught.
 const HISTORIES: u64 = 1500;
@@ -103,6 +117,27 @@ fn compare_run(subject: &Reference, lent: Lent) -> Result<(), String> {
     compare(lent, &report(), &ran, &answers, &after)
 }
 
+/// A saving and an opening that may well be refused.
+fn saving_and_opening(number: u64) -> (Saving, Opening) {
+    let mut random = Random::new(9_000_000 + number);
+    let (keys, places) = shape(number);
+    let sound = planted(&mut random, places, keys).encode();
+    (Saving::plan(&sound, &mut random), Opening::plan(&sound, &mut random))
+}
+
+/// Compares a mutant's saving and opening.
+fn compare_saving(subject: &Reference, number: u64) -> Result<(), String> {
+    let (saving, mut opening) = saving_and_opening(number);
+    compare_save(subject, &saving.lent, saving.room)?;
+    compare_open(subject, &mut opening.lent, &opening.saved, &opening.working).map(|_| ())
+}
+
+/// Places after an opening in the midst of a history: every fifth history has some.
+fn places_after(number: u64, run: usize, places: usize) -> Option<usize> {
+    let opens = number % 5 == 3 && run % 8 == 5 && places < 200;
+    opens.then(|| [places + 1, 2 * places, places][run / 8 % 3])
+}
+
 /// Runs a mutant through histories until these eyes find something; the comparison is also shown a damaged store with each.
 fn catch(slip: Slip, eyes: Eyes) -> Option<Catch> {
     let subject = Reference { slip: Some(slip) };
@@ -117,13 +152,19 @@ fn catch(slip: Slip, eyes: Eyes) -> Option<Catch> {
         for run in 0..runs {
             // Two requests now and then, so that a stop has something to stop before.
             let (count, room) = if run % 16 == 0 { (2, 1030) } else { (1, 1024) };
-            if let Err(finding) = trial.run(&source.list(count), room) {
+            let mut ran = trial.run(&source.list(count), room).map(|_| ());
+            if let Some(places) = places_after(number, run, trial.lent.cards.len()) {
+                let mut random = Random::new(number);
+                ran = ran.and_then(|()| trial.reopen(places, &mut random));
+            }
+            if let Err(finding) = ran {
                 return Some(Catch { requests: requests + trial.served, words: finding.words });
             }
         }
         requests += trial.served;
         if eyes == Eyes::Comparison {
-            if let Err(words) = compare_run(&subject, damaged(number).0) {
+            let refused = compare_run(&subject, damaged(number).0);
+            if let Err(words) = refused.and_then(|()| compare_saving(&subject, number)) {
                 return Some(Catch { requests, words });
             }
         }
@@ -187,6 +228,25 @@ fn slips_in_the_letter_are_caught_by_run_check_and_plan() {
         let words = stores.map(|store| format!("{:>12}", store.map_or(-1, |it| it as i64)));
         announce(&format!("{:<30}{}", format!("{slip:?}"), words.concat()));
         assert!(stores.iter().all(Option::is_some), "{slip:?} is not caught");
+    }
+}
+
+#[test]
+fn slips_in_savings_and_openings_are_caught_by_comparison_and_plan() {
+    announce("first saving or opening that shows it in   comparison        plan");
+    for slip in IN_SAVING.into_iter().chain([Slip::CursorToAddedPlaces]) {
+        let subject = Reference { slip: Some(slip) };
+        let by_plan = |number: &u64| {
+            let (saving, opening) = saving_and_opening(*number);
+            saving.hold(&subject).and(opening.hold(&subject)).is_err()
+        };
+        let found = [
+            (0..HISTORIES).find(|number| compare_saving(&subject, *number).is_err()),
+            (0..HISTORIES).find(by_plan),
+        ];
+        let words = found.map(|number| format!("{:>12}", number.map_or(-1, |it| it as i64)));
+        announce(&format!("{:<40}{}", format!("{slip:?}"), words.concat()));
+        assert!(found.iter().all(Option::is_some), "{slip:?} is not caught");
     }
 }
 

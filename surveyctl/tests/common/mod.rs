@@ -1,6 +1,9 @@
 //! A folder for one test, and calls of the program in it.
 #![allow(dead_code)]
 
+pub mod damaged;
+pub mod stopped;
+
 use std::io::{BufRead, BufReader, Write};
 use std::path::{Path, PathBuf};
 use std::process::{Child, ChildStdout, Command, Stdio};
@@ -30,6 +33,16 @@ impl Folder {
 
     pub fn read(&self, name: &str) -> Vec<u8> {
         std::fs::read(self.path(name)).expect(name)
+    }
+
+    /// The names of what is in it, sorted.
+    pub fn names(&self) -> Vec<String> {
+        let found = std::fs::read_dir(&self.0).expect("a folder");
+        let name = |file: std::io::Result<std::fs::DirEntry>| file.unwrap().file_name();
+        let mut names: Vec<String> =
+            found.map(|file| name(file).into_string().expect("a name in text")).collect();
+        names.sort();
+        names
     }
 
     pub fn write(&self, name: &str, bytes: impl AsRef<[u8]>) {

@@ -34,7 +34,7 @@ runs-requires : tie.Need-runs-requires
 runs-requires c κs = search needs
 
 run-all-requires : tie.Need-run-all-requires
-run-all-requires c κs = c .before .before .before .before .before .before .before .runs .ensures
+run-all-requires c κs = (omega arith, c .before .before .before .before .before .before .before .runs .ensures .all)
 
 same-length-4 : tie.Need-same-length-4
 same-length-4 c = c .before .before .before .before .before .before .before .before .before .run-all .kept .0 ∙ c .before .before .before .before .before .before .before .before .before .before .before .before .before .before .before .before .before .before .before .before .before .before .before .before .make .kept .0

@@ -12,19 +12,19 @@ use Rattle.history.proofs.run_all.Statement.{statement}
 use Rattle.history.proofs.run_all.Tie as tie
 
 abbrev Inv-loop : tie.InvT-loop
-Inv-loop area₀ cards₀ lists₀ head₀ memory₀ input ends answers₀ stops served₀ n k₀ area cards lists head memory answers served k =
-    Ran (lent area₀ cards₀ lists₀ head₀ memory₀) (pieces input ends answers₀ stops served₀) k (lent area cards lists head memory) (pieces input ends answers stops served)
-    × ((k ≤ n) × ((length area ≡ length area₀) × ((length cards ≡ length cards₀) × ((length lists ≡ length lists₀)
+Inv-loop area₀ cards₀ lists₀ head₀ memory₀ input ends answers₀ stops served₀ from n k₀ area cards lists head memory answers served k =
+    Ran (lent area₀ cards₀ lists₀ head₀ memory₀) (pieces input ends answers₀ stops served₀) from k (lent area cards lists head memory) (pieces input ends answers stops served)
+    × (((from ≤ k) × (k ≤ n)) × ((length area ≡ length area₀) × ((length cards ≡ length cards₀) × ((length lists ≡ length lists₀)
     × ((length answers ≡ length answers₀) × (length served ≡ length served₀))))))
 
 abbrev μ-loop : tie.MeasureT-loop
-μ-loop area₀ cards₀ lists₀ head₀ memory₀ input ends answers₀ stops served₀ n k₀ area cards lists head memory answers served k = n - k
+μ-loop area₀ cards₀ lists₀ head₀ memory₀ input ends answers₀ stops served₀ from n k₀ area cards lists head memory answers served k = n - k
 
 loop-holds : tie.Need-loop-holds Inv-loop μ-loop
 loop-holds c =
     let a = c .before .before .before .before .before .before .before .args in (
-      ran-none (lent (a .area .now) (a .cards .now) (a .lists .now) (a .head .now) (a .memory .now)) (pieces (a .input .now) (a .ends .now) (a .answers .now) (a .stops .now) (a .served .now)),
-      (omega arith, (refl, (refl, (refl, (refl, refl))))),
+      ran-none (lent (a .area .now) (a .cards .now) (a .lists .now) (a .head .now) (a .memory .now)) (pieces (a .input .now) (a .ends .now) (a .answers .now) (a .stops .now) (a .served .now)) (a .from),
+      ((omega arith, c .before .before .before .before .before .before .before .pre .0), (refl, (refl, (refl, (refl, refl))))),
     )
 
 run-one-requires : tie.Need-run-one-requires Inv-loop μ-loop
@@ -32,7 +32,7 @@ run-one-requires c κs =
     let i = c .before .before .before .before .before .before .before in
     let l = i .before .loop in
     let s = i .before .before .before .before .before .before .before .before .before in
-    rw (l .inv .1 .1 .1 .1 .1 .0, l .inv .1 .1 .1 .1 .1 .1) (s .pre .all (l .k) (i .loop-test .taken))
+    rw (l .inv .1 .1 .1 .1 .1 .0, l .inv .1 .1 .1 .1 .1 .1) (s .pre .1 (l .k) (i .loop-test .taken))
 
 add-k : tie.Need-add-k Inv-loop μ-loop
 add-k c = omega (arith, c .before .before .before .before .before .before .before .before .before .before .before .before .before .before .before .before .before .loop-test .taken, c .before .before .before .before .before .before .before .before .before .before .before .before .before .before .before .before .before .before .before .before .before .before .before .before .before .before .good)
@@ -42,10 +42,10 @@ loop-less c = omega (arith, c .before .before .before .before .before .before .b
 
 -- One buffer's ends, and room for its number.
 buffered : (c : tie.Start Inv-loop μ-loop) → (j : ℕ) → j < c .args .n → Ends (length (c .args .answers .now)) (c .args .stops .now) j
-buffered c j h = let a = c .args in ready-buffer (length (a .input .now)) (a .ends .now) (length (a .answers .now)) (a .stops .now) (length (a .served .now)) j (c .pre .all j h)
+buffered c j h = let a = c .args in ready-buffer (length (a .input .now)) (a .ends .now) (length (a .answers .now)) (a .stops .now) (length (a .served .now)) j (c .pre .1 j h)
 
 roomed : (c : tie.Start Inv-loop μ-loop) → (j : ℕ) → j < c .args .n → j < length (c .args .served .now)
-roomed c j h = let a = c .args in ready-room (length (a .input .now)) (a .ends .now) (length (a .answers .now)) (a .stops .now) (length (a .served .now)) j (c .pre .all j h)
+roomed c j h = let a = c .args in ready-room (length (a .input .now)) (a .ends .now) (length (a .answers .now)) (a .stops .now) (length (a .served .now)) j (c .pre .1 j h)
 
 loop-again : tie.Need-loop-again Inv-loop μ-loop
 loop-again c =
@@ -58,13 +58,13 @@ loop-again c =
     let k = n .run-one .kept in
     let v = l .inv .1 .1 in
     let last = n .run-one .last in (
-      ran-more (lent (a .area .now) (a .cards .now) (a .lists .now) (a .head .now) (a .memory .now)) (a .input .now) (a .ends .now) (a .stops .now) (a .answers .now) (a .served .now) (l .k)
+      ran-more (lent (a .area .now) (a .cards .now) (a .lists .now) (a .head .now) (a .memory .now)) (a .input .now) (a .ends .now) (a .stops .now) (a .answers .now) (a .served .now) (a .from) (l .k) (l .inv .1 .0 .0)
           (λ j h. buffered s j (omega (arith, h, below)) .rises)
           (lent (l .area) (l .cards) (l .lists) (l .head) (l .memory)) (l .answers) (l .served)
           (omega (arith, buffered s (l .k) below .within, v .1 .1 .1 .0)) (omega (arith, roomed s (l .k) below, v .1 .1 .1 .1)) (l .inv .0)
           (lent (last .0) (last .1 .0) (last .1 .1 .0) (last .1 .1 .1 .0) (last .1 .1 .1 .1 .0)) (last .1 .1 .1 .1 .1 .1 .1 .0) (last .1 .1 .1 .1 .1 .1 .1 .1 .1 .0) (n .run-one .ensures),
       (
-        omega (arith, below),
+        (omega (arith, l .inv .1 .0 .0), omega (arith, below)),
         (
           k .0 ∙ v .0,
           (
@@ -97,7 +97,7 @@ returns : tie.Need-returns Inv-loop μ-loop
 returns c =
     let l = c .before .loop in
     let a = c .before .before .before .before .before .before .before .before .before .args in
-    let e : a .n ≡ l .k = omega (arith, c .loop-test .left, l .inv .1 .0) in
+    let e : a .n ≡ l .k = omega (arith, c .loop-test .left, l .inv .1 .0 .1) in
     rw e (l .inv .0)
 
 pub run-all-spec : {M : Type 1} → statement M

@@ -1,82 +1,33 @@
--- Demand 3, as one theorem: for every history, from a store made anew, through any number of runs with any lists and answer buffers.
--- The history serves its requests from the new store one by one (`Runs`); along them the store mirrors the latest-write map (`MirrorKeeps`) and keeps
--- in step with the slice list (`SlicesKeep`), which may be worked out over any places (`AlikeServe`).
-use Prim.Native.Nat.{ℕ, zero, suc}
-use mathlib.Core.Path.{_≡_, refl, sym, _∙_, ap}
-use mathlib.Core.List.{List, [], _∷_, List·Memᴰ, List·Memᴰ·head, List·Memᴰ·tail}
+-- Demand 3, as one theorem: for every history, from any start that agrees with what is lent, through any number of runs with any lists and answer
+-- buffers. Its replies are the map's, and what is lent at the end agrees with the start that the history leaves (`Starts`); that says the rest.
+-- A store made anew is such a start.
+use Prim.Native.Nat.{ℕ}
+use mathlib.Core.Path.{_≡_, _∙_, ap, sym}
+use mathlib.Core.List.{List}
 use mathlib.Core.Bool.{true}
-use mathlib.Core.Option.{some}
 use native.Mathlib.Omega.{arith}
-use lib.ListN.{length, drop, length-map}
-use Rattle.coding.specs.Number.{Bytes}
-use Rattle.table.specs.Entry.{Entry}
-use Rattle.table.specs.Limits.{placeSize}
-use Rattle.table.specs.Search.{find}
+use lib.ListN.{length, length-map}
 use Rattle.ldc.specs.Lists.{keep}
-use Rattle.ldc.specs.Store.{Store, newStore, level}
+use Rattle.ldc.specs.Store.{Store}
 use Rattle.ldc.specs.Rules.{thresholdGood}
-use Rattle.ldc.specs.Lent.{Lent, placesIn, chop, lentOf, sizesGood}
-use Rattle.ldc.specs.Request.{Request, replyOf}
-use Rattle.ldc.specs.Read.{readOrder}
-use Rattle.ldc.specs.Serve.{serve}
-use Rattle.ldc.specs.Run.{split, make}
-use Rattle.ldc.specs.History.{Call, Event, Unmerged, Answered, fed, events, lentAfter, requestsIn, unmerged, hangsOn, linkOf, afterStep, stepOf, Holds, Demand3}
-use Rattle.ldc.proofs.Serving.Alike.{alike-new}
-use Rattle.ldc.proofs.Serving.AlikeServe.{unmerged-alike}
-use Rattle.ldc.proofs.Serving.Events.{serveList, Told}
+use Rattle.ldc.specs.Lent.{Lent, placesIn, lentOf, sizesGood}
+use Rattle.ldc.specs.Run.{make}
+use Rattle.ldc.specs.History.{Call, Event, Unmerged, Answered, events, lentAfter, hangsOn, linkOf, Start, newStart, startAfter, Holds, Demand3}
 use Rattle.ldc.proofs.Serving.Keeps.{keeps}
 use Rattle.ldc.proofs.Serving.KeepsWhole.{whole-keeps}
 use Rattle.ldc.proofs.Lent.Round.{storeOf-lentOf}
 use Rattle.ldc.proofs.Lent.Rules.{kept-lentOf}
-use Rattle.ldc.proofs.Demand.Mirror.{Mirrors, mirror-answers}
-use Rattle.ldc.proofs.Demand.MirrorKeeps.{mirror-keeps}
-use Rattle.ldc.proofs.Stores.New.{new-links, made, made-sound, made-whole}
-use Rattle.ldc.proofs.Serving.Runs.{History, history, history-complete}
-use Rattle.ldc.proofs.Demand.Slices.{Tracks, list-names}
-use Rattle.ldc.proofs.Demand.SlicesKeep.{tracks-keep}
-use Rattle.ldc.proofs.Stores.Sound.{Sound, Whole}
+use Rattle.ldc.proofs.Serving.Runs.{history-complete}
 use Rattle.ldc.proofs.Serving.Splits.{Sent, split-bytes}
-use Rattle.ldc.proofs.Serving.Threshold.{list-threshold}
+use Rattle.ldc.proofs.Stores.Sound.{Sound, Whole}
+use Rattle.ldc.proofs.Demand.Slices.{Tracks, list-names}
+use Rattle.ldc.proofs.Demand.Starts.{Starts, new-starts, BytesIn, Leads, calls-lead}
 
--- ---- a new store
-
-new-mirror : (t : ℕ) (places : List (List ℕ)) → Mirrors (newStore t places) []
-unfolding newStore readOrder level find
-new-mirror t places = record { values = λ k. refl; keys = omega arith; held = refl }
-
-new-tracks : (t : ℕ) (places : List (List ℕ)) → Tracks (newStore t places) []
-new-tracks t places = record { carried = λ q. new-links t places q; kept = λ u m. absurd (elim m [ ]) }
-
--- ---- along a list of requests
-
--- every reply is the map's
-told-answered : (s : Store) (m : List Entry) (es : List Event) → Sound s → Mirrors s m → ((r : Request) → List·Memᴰ r (requestsIn es) → Sent r) → Told s es → Answered m es
-told-answered s m [] S M g t = tt
-told-answered s m (e ∷ es) S M g t =
-    let r = e .request in
-    let sent = g r (List·Memᴰ·head refl) in
-    let whole : e ≡ record { request = r; reply = replyOf r (serve s r) } = λ i. record { request = r; reply = t .0 i } in (
-      rw (t .0) (mirror-answers s S m M r),
-      told-answered (serve s r .store) (fed e m) es (keeps s r S sent)
-          (rw whole (mirror-keeps s S m M r sent)) (λ x h. g x (List·Memᴰ·tail h)) (t .1),
-    )
-
--- the slice list stays in step
-list-tracks : (s : Store) (us : List Unmerged) (rs : List Request) → Sound s → Tracks s us → ((r : Request) → List·Memᴰ r rs → Sent r) → Tracks (serveList s rs) (unmerged s us rs)
-list-tracks s us [] S T g = T
-list-tracks s us (r ∷ rs) S T g =
-    list-tracks (serve s r .store) (afterStep s (stepOf s r) us) rs (keeps s r S (g r (List·Memᴰ·head refl))) (tracks-keep s S us T r) (λ x h. g x (List·Memᴰ·tail h))
-
-length-chop : (n : ℕ) (bytes : List ℕ) → length (chop n bytes) ≡ n
-length-chop zero bytes = refl
-length-chop (suc n) bytes = ap suc (length-chop n (drop placeSize bytes))
-
--- ---- the theorem
-
--- what is lent at the end shows a store that is sound, tracked by the list, with the threshold that it was made with; as many slices hang on a place
--- as links stand on its card
-holds : (s : Store) → Sound s → Whole s → (t : ℕ) → s .threshold ≡ t → (es : List Event) → Answered [] es → (us : List Unmerged) → Tracks s us → Holds (lentOf s) t es us
-holds s S W t h es a us T =
+-- What is lent shows a store that is sound, tracked by the list, with the threshold of the start; as many slices hang on a place as links stand
+-- on its card.
+holds : (x : Start) (es : List Event) → Answered (x .values) es → (s : Store) → Sound s → Whole s → s .threshold ≡ x .store .threshold
+    → (us : List Unmerged) → Tracks s us → Holds x es us (lentOf s)
+holds x es a s S W h us T =
     let e = storeOf-lentOf s S W in
     record {
       answered = a;
@@ -88,28 +39,24 @@ holds s S W t h es a us T =
       fewLinks = λ p. rw (e, ← h) (S .few p);
     }
 
--- For every lent memory of the right sizes, every threshold from 1 to 8, every list of calls whose lists are bytes, and places to work the slice list
--- out over, as many as are lent.
-pub demand3 : (m : Lent) (t : ℕ) (calls : List Call) (places : List (List ℕ))
-    → sizesGood m ≡ true → thresholdGood t ≡ true → ((c : Call) → List·Memᴰ c calls → Bytes (c .list)) → length places ≡ placesIn (m .area)
-    → Demand3 m t calls places
-demand3 m t calls places z h b n =
-    let found : List (List ℕ) = chop (placesIn (m .area)) (m .area) in
-    let s : Store = newStore t found in
-    let S : Sound s = made-sound m t z h in
-    let es : List Event = events (make m t .lent) calls in
-    let rs : List Request = requestsIn es in
-    let sent : (c : Call) → List·Memᴰ c calls → (xs : List Request) → split (c .list) ≡ some xs → (r : Request) → List·Memᴰ r xs → Sent r =
-    λ c i xs q. split-bytes (c .list) xs (b c i) q in
-    let H : History Sent s es (lentAfter (make m t .lent) calls) =
-    rw (made m t z h) (history Sent keeps whole-keeps s S (made-whole m t z) calls sent) in
-    let alike : unmerged (newStore t places) [] rs ≡ unmerged s [] rs =
-    unmerged-alike Sent keeps s (newStore t places) [] rs (H .good) S (alike-new t found places (n ∙ sym (length-chop (placesIn (m .area)) (m .area)))) in
-    let end : Store = serveList s rs in
-    let told : Answered [] es = told-answered s [] es S (new-mirror t found) (H .good) (H .told) in
-    let tracks : Tracks end (unmerged s [] rs) = list-tracks s [] rs S (new-tracks t found) (H .good) in
-    let kept : end .threshold ≡ t = list-threshold s rs S (H .good) ∙ (unfold newStore in refl) in
-    record {
-      complete = rw (made m t z h) (history-complete Sent keeps whole-keeps s S (made-whole m t z) calls sent);
-      holds = rw (H .lent, alike) (holds end (H .sound) (H .whole) t kept es told (unmerged s [] rs) tracks);
-    }
+-- Where events lead from a start, the slice list of the other start says it.
+pub leads-hold : (x : Start) (es : List Event) (y : Start) (m : Lent) → Leads x es y m → Holds x es (y .slices) m
+leads-hold x es y m h =
+    let k : Starts y m = h .starts in
+    rw (k .lent)
+    (holds x es (h .answered) (k .shown) (k .sound) (k .whole) (sym (k .alike .same-threshold) ∙ h .threshold) (y .slices) (k .tracks))
+
+-- For every start that agrees with what is lent, and every list of calls whose lists are bytes.
+pub demand3 : (x : Start) (m : Lent) (calls : List Call) → Starts x m → BytesIn calls → Demand3 x m calls
+demand3 x m calls k b = record {
+  complete = rw (k .lent)
+      (history-complete Sent keeps whole-keeps (k .shown) (k .sound) (k .whole) calls (λ c i rs q. split-bytes (c .list) rs (b c i) q));
+  holds = leads-hold x (events m calls) (startAfter x (events m calls)) (lentAfter m calls) (calls-lead x m k calls b);
+}
+
+-- From a store made anew: for every lent memory of the right sizes, every threshold from 1 to 8, and places to work the slice list out over, as
+-- many as are lent.
+pub demand3-new : (m : Lent) (t : ℕ) (calls : List Call) (places : List (List ℕ))
+    → sizesGood m ≡ true → thresholdGood t ≡ true → BytesIn calls → length places ≡ placesIn (m .area)
+    → Demand3 (newStart t places) (make m t .lent) calls
+demand3-new m t calls places z h b n = demand3 (newStart t places) (make m t .lent) calls (new-starts m t places z h n) b

@@ -20,15 +20,15 @@ use Rattle.ldc.specs.Memtable.{servePut}
 use Rattle.ldc.specs.Read.{valueOf, lookUp, serveLookUp, serveScan, serveReport}
 use Rattle.ldc.specs.Serve.{serve}
 use Rattle.ldc.specs.Run.{run}
+use Rattle.ldc.specs.History.{serveList}
 use Rattle.ldc.proofs.Basics.Cases.{cases}
-use Rattle.ldc.proofs.Serving.Events.{serveList}
 use Rattle.ldc.proofs.Serving.Keeps.{look-store, keeps}
 use Rattle.ldc.proofs.Serving.KeepsWhole.{whole-keeps}
 use Rattle.ldc.proofs.Lent.Rules.{kept-lentOf}
 use Rattle.ldc.proofs.Lent.Shows.{sound-storeOf, whole-storeOf, lentOf-storeOf}
 use Rattle.ldc.proofs.Demand.MirrorKeeps.{view-put, flush-values, tidy-values}
 use Rattle.ldc.proofs.Stores.Order.{view}
-use Rattle.ldc.proofs.Serving.Runs.{ran}
+use Rattle.ldc.proofs.Serving.Runs.{run-told}
 use Rattle.ldc.proofs.Serving.ServeCases.{serve-cases}
 use Rattle.ldc.proofs.Stores.Sound.{Sound}
 use Rattle.ldc.proofs.Serving.Splits.{Sent, split-bytes}
@@ -73,6 +73,6 @@ other-keys-list s k (r ∷ rs) S h =
 pub sound-run : (m : Lent) → Shape m → sizesGood m ≡ true → broken m ≡ [] → (list answer : List ℕ) → Bytes list → broken (run m list answer .lent) ≡ []
 sound-run m shape z b list answer bytes =
     let s : Store = storeOf m in
-    let H = ran Sent keeps whole-keeps s (sound-storeOf m shape z b) (whole-storeOf m z) list answer (λ rs q. split-bytes list rs bytes q) in
+    let H = run-told Sent keeps whole-keeps s (sound-storeOf m shape z b) (whole-storeOf m z) list answer (λ rs q. split-bytes list rs bytes q) in
     let e : run m list answer .lent ≡ run (lentOf s) list answer .lent = ap (λ (x : Lent). run x list answer .lent) (sym (lentOf-storeOf m shape z b)) in
     ap broken (e ∙ H .lent) ∙ kept-lentOf _ (H .sound) (H .whole)

@@ -23,7 +23,7 @@ use Rattle.ldc.specs.Layout.{stateOf, linkCount, linksAt, cardOf, markOf
 -- ---- links
 
 -- The links that stand at a position are read there.
-links-back : (ls : List Link) (row : List ℕ) (at : ℕ) (rest : List ℕ) → drop at row ≡ linkWords ls ++ rest
+pub links-back : (ls : List Link) (row : List ℕ) (at : ℕ) (rest : List ℕ) → drop at row ≡ linkWords ls ++ rest
     → linksAt (length ls) row at ≡ ls
 links-back [] row at rest h = refl
 links-back (l ∷ ls) row at rest h =
@@ -56,7 +56,7 @@ words-back (suc n) row at h =
       r,
     )
 
-length-linkWords : (ls : List Link) → length (linkWords ls) ≡ linkSize * length ls
+pub length-linkWords : (ls : List Link) → length (linkWords ls) ≡ linkSize * length ls
 length-linkWords [] = refl
 length-linkWords (l ∷ ls) = let r = length-linkWords ls in omega arith
 

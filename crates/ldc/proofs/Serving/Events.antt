@@ -16,7 +16,7 @@ use Rattle.ldc.specs.Store.{Store}
 use Rattle.ldc.specs.Request.{Request, replyOf}
 use Rattle.ldc.specs.Serve.{serve}
 use Rattle.ldc.specs.Run.{roomLimit, serveAll}
-use Rattle.ldc.specs.History.{Event, repliesAt, paired, requestsIn}
+use Rattle.ldc.specs.History.{Event, repliesAt, paired, requestsIn, serveList}
 use Rattle.ldc.proofs.Basics.Cases.{cases}
 use Rattle.ldc.proofs.Serving.Replies.{reply-there, reply-short}
 use Rattle.ldc.proofs.Stores.Sound.{Sound}
@@ -33,11 +33,6 @@ eventsFrom room s [] = []
 eventsFrom room s (r ∷ rs) =
     cond (ltb room roomLimit) []
     (eventOf s r ∷ eventsFrom (room - length (replyOf r (serve s r))) (serve s r .store) rs)
-
--- The store after all of some requests.
-abbrev pub serveList : Store → List Request → Store
-serveList s [] = s
-serveList s (r ∷ rs) = serveList (serve s r .store) rs
 
 -- Every reply is the one of serving its request at its point.
 abbrev pub Told : Store → List Event → Type 0

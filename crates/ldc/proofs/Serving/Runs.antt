@@ -14,9 +14,9 @@ use Rattle.ldc.specs.Lent.{Lent, lentOf}
 use Rattle.ldc.specs.Request.{Request}
 use Rattle.ldc.specs.Serve.{serve}
 use Rattle.ldc.specs.Run.{split, roomLimit, serveAll, Outcome, refusedRun, acceptedRun, run}
-use Rattle.ldc.specs.History.{Call, Event, paired, eventsOf, lentAfter, events, servedIn, requestsIn}
+use Rattle.ldc.specs.History.{Call, Event, paired, eventsOf, lentAfter, events, servedIn, requestsIn, serveList}
 use Rattle.ldc.proofs.Basics.Cases.{cases, maybe}
-use Rattle.ldc.proofs.Serving.Events.{eventsFrom, serveList, Told, requests-append, serveList-append, told-append, events-member, events-store, events-told, events-read, served-count}
+use Rattle.ldc.proofs.Serving.Events.{eventsFrom, Told, requests-append, serveList-append, told-append, events-member, events-store, events-told, events-read, served-count}
 use Rattle.ldc.proofs.Lent.Round.{storeOf-lentOf, sizes-lentOf}
 use Rattle.ldc.proofs.Lent.Rules.{kept-lentOf}
 use Rattle.ldc.proofs.Stores.Sound.{Sound, Whole}
@@ -93,10 +93,10 @@ module _ (Good : Request → Type 0)
   run-events s S W list answer room rs y g = rw (run-served s S W list answer room rs y, y) (events-read Good keeps s rs answer S g)
 
   -- What a run over the memory of a sound store tells.
-  pub ran : (s : Store) → Sound s → Whole s → (list answer : List ℕ)
+  pub run-told : (s : Store) → Sound s → Whole s → (list answer : List ℕ)
       → ((rs : List Request) → split list ≡ some rs → (r : Request) → List·Memᴰ r rs → Good r)
       → History Good s (eventsOf list (run (lentOf s) list answer)) (run (lentOf s) list answer .lent)
-  ran s S W list answer g =
+  run-told s S W list answer g =
       cases (ltb (length answer) roomLimit)
       (λ q. rw (run-short s S W list answer (ltb-true (length answer) roomLimit q), refused-events list 3 (lentOf s) answer) (none-served s S W))
       (λ q. maybe (split list)
@@ -116,12 +116,12 @@ module _ (Good : Request → Type 0)
   history s S W [] g = none-served s S W
   history s S W (c ∷ cs) g =
       let o : Outcome = run (lentOf s) (c .list) (c .answer) in
-      let h = ran s S W (c .list) (c .answer) (g c (List·Memᴰ·head refl)) in
+      let h = run-told s S W (c .list) (c .answer) (g c (List·Memᴰ·head refl)) in
       let k = history (serveList s (requestsIn (eventsOf (c .list) o))) (h .sound) (h .whole) cs (λ d m. g d (List·Memᴰ·tail m)) in
       both-served s (eventsOf (c .list) o) (events (o .lent) cs) (o .lent) (lentAfter (o .lent) cs) h (rw (← h .lent) at k)
 
   -- No request that was served is left out.
-  run-complete : (s : Store) → Sound s → Whole s → (list answer : List ℕ)
+  pub run-complete : (s : Store) → Sound s → Whole s → (list answer : List ℕ)
       → ((rs : List Request) → split list ≡ some rs → (r : Request) → List·Memᴰ r rs → Good r)
       → length (eventsOf list (run (lentOf s) list answer)) ≡ run (lentOf s) list answer .served
   run-complete s S W list answer g =
@@ -139,7 +139,7 @@ module _ (Good : Request → Type 0)
   history-complete s S W [] g = refl
   history-complete s S W (c ∷ cs) g =
       let o : Outcome = run (lentOf s) (c .list) (c .answer) in
-      let h = ran s S W (c .list) (c .answer) (g c (List·Memᴰ·head refl)) in
+      let h = run-told s S W (c .list) (c .answer) (g c (List·Memᴰ·head refl)) in
       let k = history-complete (serveList s (requestsIn (eventsOf (c .list) o))) (h .sound) (h .whole) cs (λ d m. g d (List·Memᴰ·tail m)) in
       let k′ : length (events (o .lent) cs) ≡ servedIn (o .lent) cs = rw (← h .lent) at k in
       let a = length-append (eventsOf (c .list) o) (events (o .lent) cs) in

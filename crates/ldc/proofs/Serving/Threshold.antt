@@ -17,8 +17,8 @@ use Rattle.ldc.specs.Read.{lookUp, serveLookUp, serveScan, serveReport}
 use Rattle.ldc.specs.Tidy.{Step, idle, refused, moved, linked, merged, tidyStep}
 use Rattle.ldc.specs.Steps.{leaves, doMove, stepServed, serveTidy}
 use Rattle.ldc.specs.Serve.{serve}
+use Rattle.ldc.specs.History.{serveList}
 use Rattle.ldc.proofs.Basics.Cases.{cases}
-use Rattle.ldc.proofs.Serving.Events.{serveList}
 use Rattle.ldc.proofs.Serving.Keeps.{look-store, keeps}
 use Rattle.ldc.proofs.Steps.LinkShape.{link-threshold}
 use Rattle.ldc.proofs.Steps.MergeShape.{merge-threshold}

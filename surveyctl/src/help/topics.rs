@@ -1,63 +1,6 @@
-//! The help texts: one for all, one for each command.
+//! More on each command.
 
-use zilgwern::{Memory, VALUE_BYTES};
-
-pub const GREETING: &str = "\
-The van's survey store. `help` lists the commands, `quit` ends.
-";
-
-const ALL: &str = "\
-surveyctl: the van's survey store from the command line
-
-Usage: surveyctl [OPTIONS] [COMMAND [WORDS]]
-
-Without a command: a prompt, or a script where standard input is no terminal.
-
-On the store, also as lines of a script or at the prompt:
-  put KEY VALUE        put a value under a key
-  get KEY              the value under a key
-  del KEY              take the value under a key away
-  scan [RANGE]         all values of a range, keys rising
-  flush                write the memory table to a place
-  tidy                 one step of compaction
-  tidy all             steps until there is nothing to do
-  report               counts of places, tables, links, memory entries
-  check                whether the store is sound, or its first broken rule
-  show                 what stands where, as a picture
-
-Others:
-  new                  make a store in the file that --store names
-  prompt               ask for commands one by one
-  script [FILE]        run the commands in a file
-  replay FILE          run a binary list of any length
-  encode [FILE]        commands in text to a binary list
-  decode list [FILE]   a binary list to commands in text
-  decode answers [FILE]  binary answers to text
-  help [COMMAND]       this text, or more on a command
-
-Options, before the command:
-  -s, --store FILE     the file that keeps the store; without it, a new store
-                       that is forgotten at the end
-      --places N       places of a new store, 16 to 4096 (32)
-      --threshold N    links that make a merge due in a new store, 1 to 8 (4);
-                       fewer do that hold as many entries as their table
-      --whole-keys     print keys as whole numbers
-  -h, --help           this text, or that of the command
-  -V, --version        the version
-
-KEY is a line and metres with a point (12 3.450), a whole number
-    (13194139536762, 0xC0000000D7A), `first` or `last`.
-RANGE is nothing (all keys), KEY KEY, LINE METRES METRES (12 3.000 4.000), or
-    `line LINE`; both ends are included.
-VALUE is text to the end of the line, text between double quotes, or
-    hex:DIGITS; at most {VALUE_BYTES} bytes.
-
-Exit status: 0 done, 1 `get` found no value, 2 words not understood, 3 refused
-by the store (the message says the number), 4 a file or the output can't be
-read or written.
-";
-
-const COMMANDS: [(&str, &str); 18] = [
+pub const TOPICS: [(&str, &str); 20] = [
     (
         "put",
         "\
@@ -181,12 +124,62 @@ and in scripts: `show` alone.
         "\
 surveyctl --store FILE [--places N] [--threshold N] new
 
-Makes a store in a file that does not exist yet. The file is the plain bytes of
-what is lent: area, cards, level lists, head, memory table, and then a word
-that says the form, 2; numbers little-endian. Each place takes {EACH} bytes of
-it, the rest {FIXED}.
+Makes a store in a file that does not exist yet. The file has a head of
+{HEAD_BYTES} bytes (the letters ZILGWERN; the form, 3, and the bytes of the area in
+four each), then the area, 1,024 bytes for each place, then the saved book.
+`save` gives the two as files of their own.
+
+Whenever the store changes, the file is replaced whole: a new one is written
+beside it, FILE.new- and the number of the program, brought to the disk, and
+then renamed. So a crash leaves the old store or the new one, and area and book
+are always of one moment. What a crash leaves beside it, the next call removes;
+names of that form are surveyctl's own.
+
+A file of the form before this one is read, and said to be old; the next change
+writes the new form.
 
   surveyctl --store van.store --places 64 --threshold 2 new
+",
+    ),
+    (
+        "grow",
+        "\
+surveyctl --store FILE grow --places N
+
+Gives a store more places, up to 4,096. The added ones are free; all else stays
+as it is, so a store that refuses by 20 can go on. Refused by 22 where it has
+more than N.
+
+  surveyctl --store van.store grow --places 128
+",
+    ),
+    (
+        "save",
+        "\
+surveyctl --store FILE save --book BOOK --area AREA
+
+Writes the store into two plain files: the saved book in BOOK, in the format of
+the order, and the places' bytes in AREA. The store stays as it is. Neither
+file may be there yet, and the book is written last: so the two are never of
+different moments, and where the book is, the area is. An area without a book
+was not finished: remove it and save again.
+
+  surveyctl --store van.store save --book van.book --area van.area
+",
+    ),
+    (
+        "open",
+        "\
+surveyctl --store FILE [--places N] open --book BOOK --area AREA
+
+Makes a store of a saved book and the area that belongs to it, in a FILE that
+does not exist yet. With --places the area is taken as one of N places; more
+than the book names are free. Refused by 1 where the area is not 16 to 4,096
+places of 1,024 bytes; by 21 where BOOK is no saved book, or not all of one; by
+22 where it names more places than the area has; by 5 and a letter where the
+store so opened is not sound, as it is with an area of another time.
+
+  surveyctl --store office.store open --book van.book --area van.area
 ",
     ),
     (
@@ -260,34 +253,4 @@ quit
 Ends the prompt or the script; so does `exit`.
 ",
     ),
-    ("", ALL),
 ];
-
-/// The text for a command, or for all.
-pub fn text(topic: &str) -> Option<String> {
-    let found = COMMANDS.iter().find(|(name, _)| *name == topic);
-    found.map(|(_, text)| filled(text))
-}
-
-/// The same at the prompt, where options have no place.
-pub fn in_prompt(topic: &str) -> Option<String> {
-    if !topic.is_empty() {
-        return text(topic);
-    }
-    let from = ALL.find("  put KEY")?;
-    let commands = &ALL[from..ALL.find("\nOthers:")?];
-    let more =
-        "  help [COMMAND]       this text, or more on a command\n  quit                 the end\n";
-    let forms = &ALL[ALL.find("\nKEY is")?..ALL.find("\nExit status")?];
-    Some(filled(&format!("{commands}{more}{forms}")))
-}
-
-/// A text with the limits that it names as numbers.
-fn filled(text: &str) -> String {
-    let fixed = Memory::byte_count(0);
-    let each = Memory::byte_count(1) - fixed;
-    let numbers = [("{VALUE_BYTES}", VALUE_BYTES), ("{EACH}", each), ("{FIXED}", fixed)];
-    numbers
-        .iter()
-        .fold(text.into(), |text: String, (name, number)| text.replace(name, &number.to_string()))
-}

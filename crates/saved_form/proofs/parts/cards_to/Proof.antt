@@ -1,0 +1,79 @@
+-- `cards_to` meets its contract. The loop's invariant: the end of all is the end of those from the i-th on, which begin at `at`.
+use Prim.Native.Nat.{_-_, _≤_}
+use mathlib.Core.Path.{_≡_, sym}
+use native.Mathlib.Omega.{arith}
+use borrow.Author.Needs.{needs}
+use lib.ListN.{length}
+use Rattle.saved_book.specs.Form.{placesSaved, cardsStart, inTurn, cardTo, cardsTo}
+use Rattle.saved_form.proofs.Fields.{card-within}
+use Rattle.saved_form.proofs.Turns.{all-left, ended, goes-on, stops, met, missed}
+use Rattle.saved_form.proofs.parts.cards_to.Statement.{statement}
+use Rattle.saved_form.proofs.parts.cards_to.Tie as tie
+
+abbrev Inv-loop : tie.InvT-loop
+Inv-loop s n i₀ at₀ i at = (at ≤ length s) × (cardsTo s ≡ inTurn (n - i) (cardTo s) at)
+
+abbrev μ-loop : tie.MeasureT-loop
+μ-loop s n i₀ at₀ i at = n - i
+
+get-u16-requires : tie.Need-get-u16-requires Inv-loop μ-loop
+get-u16-requires c κs = search needs
+
+cast-n : tie.Need-cast-n Inv-loop μ-loop
+cast-n c = search needs
+
+loop-holds : tie.Need-loop-holds Inv-loop μ-loop
+unfolding cardsTo
+loop-holds c =
+    let s = c .before .before .args .s .now in
+    (c .before .before .pre, rw (c .get-u16 .ensures) (all-left (placesSaved s) (cardTo s) cardsStart))
+
+card-to-requires : tie.Need-card-to-requires Inv-loop μ-loop
+card-to-requires c κs = c .before .loop .inv .0
+
+enum-known-next : tie.Need-enum-known-next Inv-loop μ-loop
+enum-known-next c = search needs
+
+enum-told : tie.Need-enum-told Inv-loop μ-loop
+enum-told c = search needs
+
+returns : tie.Need-returns Inv-loop μ-loop
+returns c =
+    let l = c .before .before .before .before .loop in
+    stops _ _ (l .i) (l .at) _ (l .inv .1) (c .before .before .before .loop-test .taken) (missed (c .before .before .card-to .ensures) (c .enum-told .given .1))
+
+add-i : tie.Need-add-i Inv-loop μ-loop
+add-i c = omega (arith, c .before .before .before .before .loop-test .taken, c .before .before .before .before .before .before .get-u16 .ok)
+
+loop-less : tie.Need-loop-less Inv-loop μ-loop
+loop-less c = omega (arith, c .before .before .before .before .loop-test .taken)
+
+loop-again : tie.Need-loop-again Inv-loop μ-loop
+loop-again c =
+    let l = c .before .before .before .before .before .loop in
+    let s = c .before .before .before .before .before .before .before .before .args .s .now in
+    let next = met (c .before .before .before .card-to .ensures) (c .before .next .given .1) in (
+      card-within s (l .at) _ (sym next),
+      goes-on _ _ (l .i) (l .at) _ (l .inv .1) (c .before .before .before .before .loop-test .taken) _ next,
+    )
+
+returns-2 : tie.Need-returns-2 Inv-loop μ-loop
+returns-2 c = let l = c .before .loop in ended _ _ (l .i) (l .at) _ (l .inv .1) (c .loop-test .left)
+
+pub cards-to-spec : {M : Type 1} → statement M
+cards-to-spec =
+    tie.close
+    (tie.spec
+    Inv-loop
+    μ-loop
+    get-u16-requires
+    cast-n
+    loop-holds
+    card-to-requires
+    enum-known-next
+    enum-told
+    returns
+    add-i
+    loop-less
+    loop-again
+    returns-2)

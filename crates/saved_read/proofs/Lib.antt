@@ -1,0 +1,7 @@
+-- The laws of `saved_read`.
+--   Cards    the loops over cards and links
+--   Levels   the loops over lists and their items, and the lengths of the lists
+--   Table    the memory table's bytes
+pub mod Cards
+pub mod Levels
+pub mod Table
