@@ -12,8 +12,6 @@ use book::row::Row;
 use table::limits::PlaceBytes;
 use wire::results;
 
-pub mod grown;
-
 // What a history returns: the number of making the store, and how many runs were performed.
 pub struct Done {
     pub number: u64,
@@ -57,7 +55,7 @@ fn run_one(
 }
 
 // Performs the runs from `from` on, up to n in all, one after the other.
-fn run_all(
+pub fn run_all(
     area: &mut [u8],
     cards: &mut [Row],
     lists: &mut [u16],

@@ -1,7 +1,5 @@
 -- What a reader of `history_lists` and `history` must believe besides the definition of the store.
 --   Pieces     lists and answer buffers told by their ends, and the history that can be read off them
 --   Performs   demand 3, of what memory and answers hold at the end
---   Grown      the same of a history in which the store is saved, and opened over more places
 pub mod Pieces
 pub mod Performs
-pub mod Grown

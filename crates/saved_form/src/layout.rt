@@ -4,7 +4,9 @@
 // The kind of a saved book.
 pub const SAVED_KIND: u16 = 48;
 
-// The bytes of a number, and of a key.
+// The bytes of the length of the whole, of a number, and of a key.
+pub const LENGTH: usize = 4;
+
 pub const NUMBER: usize = 2;
 
 pub const KEY: usize = 8;
@@ -13,7 +15,7 @@ pub const KEY: usize = 8;
 
 pub const WHOLE: usize = 0;
 
-pub const KIND: usize = 4;
+pub const KIND: usize = WHOLE + LENGTH;
 
 pub const PLACES: usize = 6;
 

@@ -17,11 +17,6 @@ use book::row;
 use book::row::Link;
 use book::row::Row;
 
-// The bytes of a card before its links, and those of a link.
-pub const CARD_HEAD: usize = 2 * fields::NUMBER;
-
-pub const LINK: usize = 2 * fields::NUMBER + 2 * fields::KEY;
-
 fn put_link(out: &mut [u8], at: usize, link: Link) -> usize
     requires { ⌜ at + linkWidth ≤ length (now out) ⌝ }
     ensures { λ r. ⌜ Puts out at (linkBytes (theLink link)) r ⌝ }

@@ -12,14 +12,7 @@ ghost use Rattle.saved_write.specs.Put.{Puts};
 use super::fields;
 use book::head;
 use book::head::HeadWords;
-
-// The kind of a saved book.
-const KIND: u64 = 48;
-
-// The bytes of flag and key, and those of the whole head.
-const MARK: usize = fields::NUMBER + fields::KEY;
-
-pub const HEAD: usize = 4 * fields::NUMBER + 2 * MARK;
+use saved_form::layout;
 
 fn put_mark(out: &mut [u8], at: usize, flag: u64, key: u64) -> usize
     requires { ⌜ at + markWidth ≤ length (now out) ⌝ }
@@ -42,7 +35,7 @@ pub fn put_head(out: &mut [u8], at: usize, places: usize, head: &HeadWords) -> u
     requires { ⌜ (marksGood (now head) ≡ true) × (at + headWidth ≤ length (now out)) ⌝ }
     ensures { λ r. ⌜ Puts out at (headBytes places (now (head .entry))) r ⌝ }
 {
-    let kind_end = fields::put_number(out, at, KIND);
+    let kind_end = fields::put_number(out, at, layout::SAVED_KIND as u64);
     let places_end = fields::put_number(out, kind_end, places as u64);
     let threshold_end = fields::put_number(out, places_end, head[head::THRESHOLD]);
     let cursor_end = fields::put_number(out, threshold_end, head[head::CURSOR]);

@@ -8,14 +8,12 @@ ghost use Rattle.ldc.specs.Layout.{mostPlaces, levelCount, linkLimit, lengthIn}
 ghost use Rattle.saved_book.specs.Saved.{memoryBytes};
 ghost use Rattle.saved_book.specs.Form.{cardHead, linkWidth};
 ghost use Rattle.saved_write.specs.Book.{ListsFit, cardsBytes};
-use super::cards::CARD_HEAD;
-use super::cards::LINK;
-use super::fields;
 use book::head::HeadWords;
 use book::limits::LEVELS;
 use book::list;
 use book::row;
 use book::row::Row;
+use saved_form::layout;
 use table::entry;
 use table::limits;
 
@@ -29,7 +27,7 @@ pub fn cards_length(cards: &[Row]) -> usize
     let mut n = 0;
     let mut i = 0;
     while i < cards.len() {
-        n += CARD_HEAD + LINK * row::links_held(&cards[i]);
+        n += layout::CARD_HEAD + layout::LINK * row::links_held(&cards[i]);
         i += 1;
     }
     n
@@ -45,7 +43,7 @@ pub fn lists_length(head: &HeadWords) -> usize
         × (r ≤ 2 * (levelCount + levelCount * mostPlaces))
         ⌝ }
 {
-    fields::NUMBER
+    layout::NUMBER
         * (LEVELS
             + (list::length(head, 0)
                 + list::length(head, 1)
@@ -57,5 +55,5 @@ pub fn memory_length(memory: &[u8]) -> usize
     requires { ⌜ MemoryPlace (now memory) ⌝ }
     ensures { λ r. ⌜ (r ≡ length (memoryBytes (entries (now (memory .entry))))) × (r ≤ placeSize) ⌝ }
 {
-    fields::NUMBER + (entry::length_at(memory, 0) as usize - limits::TABLE_HEAD)
+    layout::NUMBER + (entry::length_at(memory, 0) as usize - limits::TABLE_HEAD)
 }

@@ -12,6 +12,7 @@ ghost use Rattle.saved_write.specs.Book.{bookOf, Counted, Book};
 use book::head::HeadWords;
 use book::row::Row;
 use coding::number;
+use saved_form::layout;
 use table::limits::PlaceBytes;
 
 mod cards;
@@ -20,9 +21,6 @@ mod head;
 mod lengths;
 mod lists;
 mod memory;
-
-// The bytes of the length of the whole.
-const WHOLE: usize = 4;
 
 // How many bytes the saved book has, whatever is listed: of the lists only the lengths matter.
 pub fn length_of(cards: &[Row], head: &HeadWords, memory: &PlaceBytes) -> usize
@@ -35,7 +33,7 @@ pub fn length_of(cards: &[Row], head: &HeadWords, memory: &PlaceBytes) -> usize
     let cards_length = lengths::cards_length(cards);
     let lists_length = lengths::lists_length(head);
     let memory_length = lengths::memory_length(&memory[..]);
-    WHOLE + head::HEAD + cards_length + lists_length + memory_length
+    layout::CARDS + cards_length + lists_length + memory_length
 }
 
 // Writes the saved book to the front of a buffer that has room for it; the rest stays.
@@ -50,9 +48,9 @@ pub fn write(cards: &[Row], lists: &[u16], head: &HeadWords, memory: &PlaceBytes
         (savedBytes (bookOf (now (cards .entry)) (now (lists .entry)) (now (head .entry)) (now (memory .entry))))
         ⌝ }
 {
-    let head_end = head::put_head(out, WHOLE, cards.len(), head);
+    let head_end = head::put_head(out, layout::KIND, cards.len(), head);
     let cards_end = cards::put_cards(out, head_end, cards);
     let lists_end = lists::put_lists(out, cards_end, lists, cards.len(), head);
     let end = memory::put_memory(out, lists_end, &memory[..]);
-    number::put(out, 0, WHOLE, end as u64);
+    number::put(out, layout::WHOLE, layout::LENGTH, end as u64);
 }

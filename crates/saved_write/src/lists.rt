@@ -9,6 +9,7 @@ ghost use Rattle.saved_write.specs.Put.{Puts};
 use super::fields;
 use book::head::HeadWords;
 use book::list;
+use saved_form::layout;
 use wire::reply;
 
 fn put_items(out: &mut [u8], at: usize, items: &[u16]) -> usize
@@ -17,7 +18,7 @@ fn put_items(out: &mut [u8], at: usize, items: &[u16]) -> usize
 {
     let start = fields::put_number(out, at, items.len() as u64);
     reply::put_numbers(out, start, items);
-    start + fields::NUMBER * items.len()
+    start + layout::NUMBER * items.len()
 }
 
 // Level n's list.

@@ -1,5 +1,3 @@
 -- What a reader of `store_structs` must believe besides the definition of the store.
---   Over    what a call over cards as structs returns and leaves, with working rows beside them
---   Saved   the same of saving and opening
+--   Over   what a call over cards as structs returns and leaves, with working rows beside them
 pub mod Over
-pub mod Saved

@@ -1,9 +1,9 @@
-// The store over lent memory whose cards are a slice of structs: make, check and run here, save and open in `saved`.
+// The store over lent memory whose cards are a slice of structs: make, check and run.
 //
 // The store itself works on rows of words. Who calls these functions lends working rows beside the cards, as many; another number of them is
-// refused by 1. Make, check and run find numbers 1 to 4 before anything is carried over: then nothing that is lent changes. Otherwise the rows are
-// working memory. The cards are carried to them (but not for a new store, which needs no old cards), the proved function works on them, and make and
-// run carry them back where they accept. With 5 the cards stay as they were, and the rows hold their words.
+// refused by 1. Numbers 1 to 4 are found before anything is carried over: then nothing that is lent changes. Otherwise the rows are working
+// memory. The cards are carried to them (but not for a new store, which needs no old cards), the proved function works on them, and make and run
+// carry them back where they accept. With 5 the cards stay as they were, and the rows hold their words.
 ghost use mathlib.Core.Path.{_≡_};
 ghost use mathlib.Core.Bool.{cond, _&&_};
 ghost use mathlib.Core.List.{List};
@@ -25,8 +25,6 @@ use store_cards::Card;
 use store_run::Ran;
 use table::limits::PlaceBytes;
 use wire::results;
-
-pub mod saved;
 
 // Makes a new store of so many cards in rows, or refuses with nothing changed.
 fn make_rows(
@@ -76,7 +74,7 @@ pub fn make(
 }
 
 // Number 1: are so many bytes, cards, working rows and list items those of a store, with as many rows as cards?
-fn fits(area: usize, cards: usize, rows: usize, lists: usize) -> bool
+pub fn fits(area: usize, cards: usize, rows: usize, lists: usize) -> bool
     ensures { λ r. ⌜
         ((m : Lent) (w : List (List ℕ))
         → length (m .area) ≡ area → length (m .cards) ≡ cards → length w ≡ rows → length (m .lists) ≡ lists

@@ -2,7 +2,7 @@
 //! order of refusals. Bytes that are not of the form are in `book_form`.
 
 use crate::client::{digits, Ask, Client, Reply};
-use crate::saving::{key, linked, pair, saved};
+use crate::saving::{key, linked, pair, saved, WRONG_SIZES};
 use differential::open;
 use reference::lent::*;
 
@@ -121,17 +121,7 @@ fn a_store_at_20_everywhere_goes_on_over_twice_the_places() {
 fn wrong_sizes_are_1_before_21() {
     let (store, _) = linked();
     let book = saved(&store.lent);
-    let wrong: [fn(&mut Lent); 8] = [
-        |lent| lent.area.truncate(15_000),
-        |lent| lent.area.extend([0; 1024]),
-        |lent| lent.cards.truncate(15),
-        |lent| lent.cards.push(ROW_FREE),
-        |lent| lent.lists.truncate(63),
-        |lent| lent.lists.push(0),
-        |lent| *lent = Lent::zeroed(15),
-        |lent| *lent = Lent::zeroed(4097),
-    ];
-    for misshape in wrong {
+    for misshape in WRONG_SIZES {
         let mut lent = over(&store.lent.area);
         misshape(&mut lent);
         assert_eq!(opened(&mut lent, &book), (1, 0));

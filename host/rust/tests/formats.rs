@@ -1,5 +1,8 @@
 //! The examples of docs/FORMATS.md are what the library takes and gives.
 
+mod common;
+
+use common::printed;
 use zilgwern::*;
 
 const PAGE: &str = include_str!("../../../docs/FORMATS.md");
@@ -141,28 +144,9 @@ fn card_is_printed(card: &Row, name: &str) {
     assert!(words.ends_with(&format!("{} zeros", rest.len())), "{name}: {words}");
 }
 
-/// The store with a link that the page prints.
-fn linked() -> Memory {
-    let mut memory = Memory::zeroed(32);
-    let mut store = Store::make(memory.lend(), 4).unwrap();
-    for keys in [&[1u64, 2, 3][..], &[4, 5], &[6], &[7]] {
-        for key in keys {
-            match key {
-                5 => store.delete(*key).unwrap(),
-                _ => store.put(*key, b"v").unwrap(),
-            }
-        }
-        assert_eq!(store.flush(), Ok(true));
-    }
-    for step in [Step::Moved, Step::Linked] {
-        assert_eq!(store.tidy(), Ok(Some(Stepped { step, level: 0 })));
-    }
-    memory
-}
-
 #[test]
 fn a_link_is_as_printed() {
-    let memory = linked();
+    let memory = printed();
     let view = Store::open_owned(memory.clone()).unwrap().view();
     let table = &view.levels[1][0];
     let link = Link { place: 1, low: Key::LEAST, high: Key::GREATEST, number: 2 };
@@ -206,7 +190,7 @@ fn the_damaged_store_gives_the_letters_as_printed() {
     let (_, rows) =
         PAGE.split_once("| Changed | From | To | | Letter |\n|---|---|---|---|---|\n").unwrap();
     let damages: Vec<_> = rows.lines().take_while(|row| !row.is_empty()).map(damage).collect();
-    let mut bytes = linked().to_bytes();
+    let mut bytes = printed().to_bytes();
     for (at, from, to, _) in &damages {
         let changed = &mut bytes[*at..][..from.len()];
         assert_eq!(changed, from);

@@ -2,25 +2,15 @@
 
 mod common;
 
-use common::Random;
+use common::{printed, Random};
 use zilgwern::*;
 
 const PAGE: &str = include_str!("../../../docs/FORMATS.md");
 const HEADER: &str = include_str!("../../zilgwern.h");
 
-/// The store with a link that the page prints, and the entry that was put since.
+/// The store that the page prints, and the entry that was put since.
 fn printed_store() -> Store<'static> {
-    let mut store = Store::owned(32, 4).unwrap();
-    for keys in [&[1u64, 2, 3][..], &[4, 5], &[6], &[7]] {
-        for key in keys {
-            match key {
-                5 => store.delete(*key).unwrap(),
-                _ => store.put(*key, b"v").unwrap(),
-            }
-        }
-        assert_eq!(store.flush(), Ok(true));
-    }
-    (0..2).for_each(|_| assert!(store.tidy().unwrap().is_some()));
+    let mut store = Store::open_owned(printed()).unwrap();
     store.put(5, b"A").unwrap();
     store
 }

@@ -23,9 +23,6 @@ add-result-2 c = search needs
 add-result-3 : tie.Need-add-result-3
 add-result-3 c = omega arith
 
-add-result-4 : tie.Need-add-result-4
-add-result-4 c = omega arith
-
 returns : tie.Need-returns
 returns c =
     let b = c .before .before .before .before in
@@ -42,5 +39,4 @@ length-of-spec =
     add-result
     add-result-2
     add-result-3
-    add-result-4
     returns)

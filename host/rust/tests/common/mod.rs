@@ -1,4 +1,4 @@
-//! A small seeded generator of numbers, and a store with a link.
+//! A small seeded generator of numbers, and two stores with a link.
 #![allow(dead_code)]
 
 use zilgwern::{Memory, Step, Stepped, Store};
@@ -25,5 +25,24 @@ pub fn linked() -> Memory {
     assert_eq!(store.tidy(), Ok(Some(Stepped { step: Step::Moved, level: 0 })));
     assert_eq!(store.tidy(), Ok(Some(Stepped { step: Step::Linked, level: 0 })));
     assert_eq!(store.tidy(), Ok(None));
+    memory
+}
+
+/// The store with a link that docs/FORMATS.md prints.
+pub fn printed() -> Memory {
+    let mut memory = Memory::zeroed(32);
+    let mut store = Store::make(memory.lend(), 4).unwrap();
+    for keys in [&[1u64, 2, 3][..], &[4, 5], &[6], &[7]] {
+        for key in keys {
+            match key {
+                5 => store.delete(*key).unwrap(),
+                _ => store.put(*key, b"v").unwrap(),
+            }
+        }
+        assert_eq!(store.flush(), Ok(true));
+    }
+    for step in [Step::Moved, Step::Linked] {
+        assert_eq!(store.tidy(), Ok(Some(Stepped { step, level: 0 })));
+    }
     memory
 }

@@ -5,6 +5,9 @@ use Rattle.saved_write.specs.Book.{headBytes}
 use Rattle.saved_write.proofs.head.put_head.Statement.{statement}
 use Rattle.saved_write.proofs.head.put_head.Tie as tie
 
+cast-put-number : tie.Need-cast-put-number
+cast-put-number c = search needs
+
 put-number-requires : tie.Need-put-number-requires
 put-number-requires c κs = search needs
 
@@ -43,6 +46,7 @@ pub put-head-spec : {M : Type 1} → statement M
 put-head-spec =
     tie.close
     (tie.spec
+    cast-put-number
     put-number-requires
     put-number-requires-2
     element-copy-out-put-number

@@ -15,12 +15,12 @@ use Rattle.book.specs.Pieces.{lent}
 use Rattle.saved_book.specs.Calls.{openWith, workingAfter}
 use Rattle.saved_book.proofs.Done.{save-within}
 use Rattle.history_lists.specs.Pieces.{pieces}
-use Rattle.history_lists.specs.Grown.{Handed, handed, frontOf, withFront, grownNumber}
-use Rattle.history_lists.proofs.Granted.{Granted, granted, Within, within}
-use Rattle.history_lists.proofs.Fronts.{put-back}
-use Rattle.history_lists.proofs.Grows.{grown, refused-grown, performed-grown}
-use Rattle.history.proofs.grown.perform_grown.Statement.{statement}
-use Rattle.history.proofs.grown.perform_grown.Tie as tie
+use Rattle.history_grown.specs.Grown.{Handed, handed, frontOf, withFront, grownNumber}
+use Rattle.history_grown.proofs.Granted.{Granted, granted, Within, within}
+use Rattle.history_grown.proofs.Fronts.{put-back}
+use Rattle.history_grown.proofs.Grows.{grown, refused-grown, performed-grown}
+use Rattle.history_grown.proofs.perform_grown.Statement.{statement}
+use Rattle.history_grown.proofs.perform_grown.Tie as tie
 
 -- All that was handed over.
 abbrev given : tie.Start → Handed

@@ -24,15 +24,15 @@ use Rattle.saved_book.specs.Calls.{Saving, saving, saveBook, Opening, opening, 
 use Rattle.saved_book.proofs.Done.{save-done, open-done}
 use Rattle.saved_history.specs.History.{Act, ran, savedIn, eventsThrough, servedThrough, Carried, AllGiven, Demand3Through}
 use Rattle.saved_history.proofs.Through.{demand3-through-new}
 use Rattle.history_lists.specs.Pieces.{Pieces, pieces, startOf, piece, Runs, callsIn, eventsIn, notedIn}
 use Rattle.history_lists.specs.Performs.{outcomeAt, Ran}
-use Rattle.history_lists.specs.Grown.{Handed, handed, frontOf, withFront, grownNumber, madeFront, frontAfter, actsTo, lentTo, RanSaved, Grown, PerformsGrown}
+use Rattle.history_grown.specs.Grown.{Handed, handed, frontOf, withFront, grownNumber, madeFront, frontAfter, actsTo, lentTo, RanSaved, Grown, PerformsGrown}
 use Rattle.history_lists.proofs.Starts.{ready-buffer}
 use Rattle.history_lists.proofs.Turn.{drop-more, length-calls}
 use Rattle.history_lists.proofs.Joined.{calls-bytes}
-use Rattle.history_lists.proofs.Fronts.{front-area, front-places, front-sizes, carried}
-use Rattle.history_lists.proofs.Granted.{Granted}
-use Rattle.history_lists.proofs.Midway.{still, same-calls, same-outcome, onto, others, asOpened, lent-early, lent-late, events-late, served-late, given-late, opened-mid}
+use Rattle.history_grown.proofs.Fronts.{front-area, front-places, front-sizes, carried}
+use Rattle.history_grown.proofs.Granted.{Granted}
+use Rattle.history_grown.proofs.Midway.{still, same-calls, same-outcome, onto, others, asOpened, lent-early, lent-late, events-late, served-late, given-late, opened-mid}
 
 made-zero : (m : Lent) (t : ℕ) → sizesGood m ≡ true → thresholdGood t ≡ true → make m t .number ≡ accepted
 unfolding make

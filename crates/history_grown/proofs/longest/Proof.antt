@@ -2,8 +2,8 @@
 use native.Mathlib.Omega.{arith}
 use borrow.Author.Needs.{needs}
 use Rattle.saved_book.specs.Calls.{longestBook}
-use Rattle.history.proofs.grown.longest.Statement.{statement}
-use Rattle.history.proofs.grown.longest.Tie as tie
+use Rattle.history_grown.proofs.longest.Statement.{statement}
+use Rattle.history_grown.proofs.longest.Tie as tie
 
 mul-cards : tie.Need-mul-cards
 mul-cards c = search needs

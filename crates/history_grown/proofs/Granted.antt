@@ -17,7 +17,7 @@ use Rattle.ldc.proofs.Basics.Cases.{cases}
 use Rattle.ldc.proofs.Lent.Shows.{sizes}
 use Rattle.book.specs.Pieces.{lent}
 use Rattle.saved_book.specs.Calls.{longestBook}
-use Rattle.history_lists.specs.Grown.{Handed, grownNumber}
+use Rattle.history_grown.specs.Grown.{Handed, grownNumber}
 
 -- ---- by its tests
 

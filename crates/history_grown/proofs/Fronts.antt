@@ -23,8 +23,8 @@ use Rattle.saved_book.specs.Saved.{savedBytes}
 use Rattle.saved_book.specs.Calls.{longestBook}
 use Rattle.saved_book.proofs.Longest.{longest-enough}
 use Rattle.saved_history.specs.History.{Carried}
-use Rattle.history_lists.specs.Grown.{frontOf, withFront}
-use Rattle.history_lists.proofs.Granted.{Within}
+use Rattle.history_grown.specs.Grown.{frontOf, withFront}
+use Rattle.history_grown.proofs.Granted.{Within}
 
 -- ---- sizes
 

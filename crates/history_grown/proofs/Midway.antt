@@ -16,11 +16,11 @@ use Rattle.ldc.proofs.Basics.Cases.{cases}
 use Rattle.saved_book.specs.Calls.{saveBook, openBook}
 use Rattle.saved_history.specs.History.{Act, ran, reopened, savedIn, afterAct, lentThrough, eventsThrough, servedThrough, Carried, AllGiven, AllOpened}
 use Rattle.saved_history.proofs.Acts.{lent-behind, events-behind, served-behind, given-behind, opened-behind, lent-runs, events-runs, served-runs, given-runs}
 use Rattle.history_lists.specs.Pieces.{Pieces, pieces, startOf, piece, callAt, callsIn}
 use Rattle.history_lists.specs.Performs.{outcomeAt}
-use Rattle.history_lists.specs.Grown.{Handed, withFront, madeFront, frontAfter, actsTo, lentTo}
+use Rattle.history_grown.specs.Grown.{Handed, withFront, madeFront, frontAfter, actsTo, lentTo}
 use Rattle.history_lists.proofs.Starts.{starts-rise}
 use Rattle.history_lists.proofs.Turn.{piece-same, drop-more, length-calls, called}
 
 -- ---- the other calls are yet as they were handed over
 

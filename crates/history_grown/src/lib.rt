@@ -7,9 +7,7 @@ ghost use Rattle.ldc.specs.Layout.{mostPlaces};
 ghost use Rattle.book.specs.Pieces.{after, before};
 ghost use Rattle.saved_book.specs.Calls.{longestBook};
 ghost use Rattle.history_lists.specs.Pieces.{piecesBefore, piecesAfter, AllReady};
-ghost use Rattle.history_lists.specs.Grown.{Handed, handed, grownNumber, RanSaved, PerformsGrown};
-use super::Done;
-use super::run_all;
+ghost use Rattle.history_grown.specs.Grown.{Handed, handed, grownNumber, RanSaved, PerformsGrown};
 use book::head::HeadWords;
 use book::limits::FEWEST_PLACES;
 use book::limits::LEAST_THRESHOLD;
@@ -17,6 +15,7 @@ use book::limits::LEVELS;
 use book::limits::LINK_LIMIT;
 use book::row::Row;
 use book::sizes;
+use history::Done;
 use saved_form::layout;
 use store_save::open;
 use store_save::save;
@@ -97,7 +96,7 @@ fn run_and_save(
         ⌝ }
 {
     store_make::make(area, cards, lists, head, memory, threshold);
-    run_all(
+    history::run_all(
         area,
         cards,
         lists,
@@ -182,7 +181,7 @@ pub fn perform_grown(
         &buffer[..written],
         working,
     );
-    run_all(
+    history::run_all(
         area,
         cards,
         lists,

@@ -62,21 +62,21 @@ use Rattle.saved_book.specs.Calls.{saving, saveBook}
 use Rattle.store_save.specs.declared.save.Saved.{Saved}
 use Rattle.store_save.proofs.save.Saved as K
 use Rattle.store_save.proofs.save.Saved.Laws as K′
 use Rattle.store_structs.specs.Over.{asMany}
-use Rattle.store_structs.proofs.SavedWays.{Saves, save-refused, save-as-many, save-done}
+use Rattle.store_save_structs.proofs.Ways.{Saves, save-refused, save-as-many, save-done}
 use Rattle.store_structs.proofs.Carry.{R, Load}
 use Rattle.store_structs.proofs.fits as fits-fn
 use Rattle.store_structs.proofs.fits.Symbol as fits-def
 use Rattle.store_structs.proofs.fits.Symbol.{name as #fits}
 use Rattle.store_structs.proofs.fits.Met as fits-thm
-use Rattle.store_structs.proofs.saved.save_rows as core-fn
-use Rattle.store_structs.proofs.saved.save_rows.Symbol as core-def
-use Rattle.store_structs.proofs.saved.save_rows.Symbol.{name as #core}
-use Rattle.store_structs.proofs.saved.save_rows.Met as core-thm
-use Rattle.store_structs.proofs.saved.save.Key.{name as #store-structs·saved·save}
-use Rattle.store_structs.proofs.saved.save as saves
-use Rattle.store_structs.proofs.saved.save.Statement as stated
-use Rattle.store_structs.proofs.saved.save.Code as code
+use Rattle.store_save_structs.proofs.save_rows as core-fn
+use Rattle.store_save_structs.proofs.save_rows.Symbol as core-def
+use Rattle.store_save_structs.proofs.save_rows.Symbol.{name as #core}
+use Rattle.store_save_structs.proofs.save_rows.Met as core-thm
+use Rattle.store_save_structs.proofs.save.Key.{name as #store-save-structs·save}
+use Rattle.store_save_structs.proofs.save as saves
+use Rattle.store_save_structs.proofs.save.Statement as stated
+use Rattle.store_save_structs.proofs.save.Code as code
 
 abbrev stayed : Stays (saves.ended .signature .params) (saves.ended .kept)
 stayed = (stay-none-slice (0 ∷ []) tt (plain (λ _. u8)) yes, (stay-none-slice (1 ∷ []) tt (plain (λ _. R)) yes, (gave-slice (2 ∷ []) tt RowS, (stay-none-slice (3 ∷ []) tt (plain (λ _. u16)) yes, (stay-none-ref (4 ∷ []) tt HeadS yes, (stay-none-ref (5 ∷ []) tt MemS yes, (gave-slice (6 ∷ []) tt (plain (λ _. u8)), tt)))))))
@@ -318,8 +318,8 @@ pub save-spec : {M : Type 1} → stated.statement M
 unfolding code.routine tablesOf
 save-spec 𝓤 H 𝓜 𝓖 𝓡 =
     entered 𝓤 H (tripleOf 𝓤 H (𝓖 .A) saves.signature (saves.spec 𝓤 H (𝓖 .A) (𝓜 .mem) (𝓡 .run)))
-    (tables 𝓤 H 𝓜 𝓡 code.env .C) (tables 𝓤 H 𝓜 𝓡 code.env .Λ) #store-structs·saved·save code.function (code.unfolded 𝓤 H 𝓜 𝓡)
+    (tables 𝓤 H 𝓜 𝓡 code.env .C) (tables 𝓤 H 𝓜 𝓡 code.env .Λ) #store-save-structs·save code.function (code.unfolded 𝓤 H 𝓜 𝓡)
     (save-meets 𝓤 H (𝓖 .A) (givenOf 𝓤 H 𝓜 𝓖) (𝓜 .mem) (𝓡 .run) (tablesOf 𝓤 H 𝓜 (tables 𝓤 H 𝓜 𝓡 code.env))
     (cited 𝓤 H (Fits 𝓤 H (𝓖 .A) (𝓜 .mem) (𝓡 .run)) 𝓜 𝓡 code.env #fits fits-def.routine code.calls-store-structs·fits (fits-thm.met 𝓤 H 𝓜 𝓖 𝓡))
     (cited 𝓤 H (Load 𝓤 H (𝓖 .A) (𝓜 .mem) (𝓡 .run)) 𝓜 𝓡 code.env #store-cards·load load-def.routine code.calls-store-cards·load (load-thm.met 𝓤 H 𝓜 𝓖 𝓡))
-    (cited 𝓤 H (Core 𝓤 H (𝓖 .A) (𝓜 .mem) (𝓡 .run)) 𝓜 𝓡 code.env #core core-def.routine code.calls-store-structs·saved·save-rows (core-thm.met 𝓤 H 𝓜 𝓖 𝓡)))
+    (cited 𝓤 H (Core 𝓤 H (𝓖 .A) (𝓜 .mem) (𝓡 .run)) 𝓜 𝓡 code.env #core core-def.routine code.calls-store-save-structs·save-rows (core-thm.met 𝓤 H 𝓜 𝓖 𝓡)))

@@ -9,10 +9,10 @@ use lib.ListN.{length}
 use Rattle.table.proofs.Tests.{and-parts}
 use Rattle.ldc.specs.Rules.{thresholdGood}
 use Rattle.ldc.specs.Layout.{fewestPlaces}
-use Rattle.history_lists.specs.Grown.{Handed}
-use Rattle.history_lists.proofs.Granted.{sized, sized-same, number-sizes, number-threshold, number-short, number-zero, few-cards}
-use Rattle.history.proofs.grown.judge.Statement.{statement}
-use Rattle.history.proofs.grown.judge.Tie as tie
+use Rattle.history_grown.specs.Grown.{Handed}
+use Rattle.history_grown.proofs.Granted.{sized, sized-same, number-sizes, number-threshold, number-short, number-zero, few-cards}
+use Rattle.history_grown.proofs.judge.Statement.{statement}
+use Rattle.history_grown.proofs.judge.Tie as tie
 
 sizes-requires : tie.Need-sizes-requires
 sizes-requires c κs = search needs

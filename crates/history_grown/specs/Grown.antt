@@ -115,8 +115,8 @@ pub record Grown (h : Handed) (t first mid n : ℕ) (h′ : Handed) : Type 0 whe
       → Holds (newStart t places) (eventsIn (h′ .pieces) n)
       (startThrough (newStart t places) (madeFront h t first) (actsTo h t first mid n) .slices) (h′ .lent)
 
--- Refused, nothing is run and nothing changes. Else the store is opened after as many runs as `before` says, or after all there are.
-pub record PerformsGrown (h : Handed) (t first before number n : ℕ) (h′ : Handed) : Type 0 where
+-- Refused, nothing is run and nothing changes. Else the store is opened after as many runs as `earlier` says, or after all there are.
+pub record PerformsGrown (h : Handed) (t first earlier number n : ℕ) (h′ : Handed) : Type 0 where
   pub number-is : number ≡ grownNumber h t first
   pub refused : (number ≡ 0 → ⊥) → (n ≡ 0) × (h′ ≡ h)
-  pub done : number ≡ 0 → Grown h t first (min before n) n h′
+  pub done : number ≡ 0 → Grown h t first (min earlier n) n h′

@@ -2,9 +2,9 @@
 use borrow.Author.Needs.{needs}
 use Rattle.book.specs.Pieces.{lent}
 use Rattle.history_lists.specs.Pieces.{pieces}
-use Rattle.history_lists.proofs.Grows.{ran-saved}
-use Rattle.history.proofs.grown.run_and_save.Statement.{statement}
-use Rattle.history.proofs.grown.run_and_save.Tie as tie
+use Rattle.history_grown.proofs.Grows.{ran-saved}
+use Rattle.history_grown.proofs.run_and_save.Statement.{statement}
+use Rattle.history_grown.proofs.run_and_save.Tie as tie
 
 make-requires : tie.Need-make-requires
 make-requires c κs = search needs

@@ -22,8 +22,8 @@ use Rattle.store_cards.specs.Card.{rowsOf}
 use Rattle.store_cards.specs.declared.Card.{Card}
 use Rattle.store_cards.proofs.Words.{rows-length}
 use Rattle.store_save.specs.Left.{Beside, cardsLeft}
 use Rattle.store_structs.specs.Over.{asMany}
-use Rattle.store_structs.specs.Saved.{saveOver, rowsSaved}
+use Rattle.store_save_structs.specs.Saved.{saveOver, rowsSaved}
 
 -- ---- save
 

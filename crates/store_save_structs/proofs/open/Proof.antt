@@ -57,12 +57,12 @@ use Rattle.store_save.proofs.open.open_beside as core-fn
 use Rattle.store_save.proofs.open.open_beside.Symbol as core-def
 use Rattle.store_save.proofs.open.open_beside.Symbol.{name as #core}
 use Rattle.store_save.proofs.open.open_beside.Met as core-thm
-use Rattle.store_structs.proofs.SavedWays.{Opens, Says, open-refused, open-as-many, open-done}
+use Rattle.store_save_structs.proofs.Ways.{Opens, Says, open-refused, open-as-many, open-done}
 use Rattle.store_structs.proofs.Carry.{R, Unload, Lent, Pair, Both, Cards, Rows, rows-as, Rows-again, Rows-kept, To-rows, lends-rows, backs-rows, To-unload, lends-unload, unloading, Unloaded, backs-unload}
-use Rattle.store_structs.proofs.saved.open.Key.{name as #store-structs·saved·open}
-use Rattle.store_structs.proofs.saved.open as opens
-use Rattle.store_structs.proofs.saved.open.Statement as stated
-use Rattle.store_structs.proofs.saved.open.Code as code
+use Rattle.store_save_structs.proofs.open.Key.{name as #store-save-structs·open}
+use Rattle.store_save_structs.proofs.open as opens
+use Rattle.store_save_structs.proofs.open.Statement as stated
+use Rattle.store_save_structs.proofs.open.Code as code
 
 abbrev stayed : Stays (opens.ended .signature .params) (opens.ended .kept)
 stayed = (stay-none-slice (0 ∷ []) tt (plain (λ _. u8)) yes, (gave-slice (1 ∷ []) tt (plain (λ _. R)), (stay-slice (2 ∷ []) tt RowS, (gave-slice (3 ∷ []) tt (plain (λ _. u16)), (gave-ref (4 ∷ []) tt HeadS, (gave-ref (5 ∷ []) tt MemS, (stay-none-slice (6 ∷ []) tt (plain (λ _. u8)) yes, tt)))))))
@@ -307,7 +307,7 @@ pub open-spec : {M : Type 1} → stated.statement M
 unfolding code.routine tablesOf
 open-spec 𝓤 H 𝓜 𝓖 𝓡 =
     entered 𝓤 H (tripleOf 𝓤 H (𝓖 .A) opens.signature (opens.spec 𝓤 H (𝓖 .A) (𝓜 .mem) (𝓡 .run)))
-    (tables 𝓤 H 𝓜 𝓡 code.env .C) (tables 𝓤 H 𝓜 𝓡 code.env .Λ) #store-structs·saved·open code.function (code.unfolded 𝓤 H 𝓜 𝓡)
+    (tables 𝓤 H 𝓜 𝓡 code.env .C) (tables 𝓤 H 𝓜 𝓡 code.env .Λ) #store-save-structs·open code.function (code.unfolded 𝓤 H 𝓜 𝓡)
     (open-meets 𝓤 H (𝓖 .A) (givenOf 𝓤 H 𝓜 𝓖) (𝓜 .mem) (𝓡 .run) (tablesOf 𝓤 H 𝓜 (tables 𝓤 H 𝓜 𝓡 code.env))
     (cited 𝓤 H (Core 𝓤 H (𝓖 .A) (𝓜 .mem) (𝓡 .run)) 𝓜 𝓡 code.env #core core-def.routine code.calls-store-save·open·open-beside (core-thm.met 𝓤 H 𝓜 𝓖 𝓡))
     (cited 𝓤 H (Unload 𝓤 H (𝓖 .A) (𝓜 .mem) (𝓡 .run)) 𝓜 𝓡 code.env #store-cards·unload unload-def.routine code.calls-store-cards·unload (unload-thm.met 𝓤 H 𝓜 𝓖 𝓡)))

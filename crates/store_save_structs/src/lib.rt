@@ -7,9 +7,8 @@ ghost use Rattle.ldc.specs.Run.{accepted, letterOf};
 ghost use Rattle.book.specs.Pieces.{before};
 ghost use Rattle.saved_book.specs.Opened.{openedOver};
 ghost use Rattle.saved_book.specs.Calls.{saving, saveBook, opening, openWith, workingAfter};
 ghost use Rattle.store_structs.specs.Over.{beforeOver};
-ghost use Rattle.store_structs.specs.Saved.{saveOver, rowsSaved, bookAfterOver};
-use super::fits;
+ghost use Rattle.store_save_structs.specs.Saved.{saveOver, rowsSaved, bookAfterOver};
 use book::head::HeadWords;
 use book::row::Row;
 use store_cards::Card;
@@ -56,7 +55,7 @@ pub fn save(
         × (now (rows .exit) ≡ rowsSaved (r .number) (now (rows .entry)) (now (cards .entry))))
         ⌝ }
 {
-    if !fits(area.len(), cards.len(), rows.len(), lists.len()) {
+    if !store_structs::fits(area.len(), cards.len(), rows.len(), lists.len()) {
         return Saved {
             number: results::WRONG_SIZES,
             letter: 0,
