@@ -83,7 +83,8 @@ abbrev pub lentTo : Handed → (t first mid k : ℕ) → Lent
 lentTo h t first mid k = lentThrough (madeFront h t first) (actsTo h t first mid k)
 
 -- Runs on a store made anew, then saved: memory, answers and numbers, the saved length and the buffer are the definition's.
-pub record RanSaved (m : Lent) (t : ℕ) (p : Pieces) (n : ℕ) (buffer : List ℕ) (written : ℕ) (m′ : Lent) (p′ : Pieces) (buffer′ : List ℕ) : Type 0 where
+pub record RanSaved (m : Lent) (t : ℕ) (p : Pieces) (n : ℕ) (buffer : List ℕ) (written : ℕ)
+    (m′ : Lent) (p′ : Pieces) (buffer′ : List ℕ) : Type 0 where
   pub ran : Ran (make m t .lent) p 0 n m′ p′
   pub written-is : written ≡ saveBook m′ buffer .written
   pub saved : buffer′ ≡ saveBook m′ buffer .buffer

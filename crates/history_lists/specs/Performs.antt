@@ -26,8 +26,10 @@ pub record Ran (m : Lent) (p : Pieces) (from n : ℕ) (m′ : Lent) (p′ : Piec
   pub read : eventsIn p′ n ≡ eventsIn p from ++ events m (drop from (callsIn p n))
   pub counted : notedIn p′ n ≡ notedIn p from + servedIn m (drop from (callsIn p n))
   -- each buffer and each number are what the definition's run leaves
-  pub buffers : (k : ℕ) → from ≤ k → k < n → piece (p′ .answers) (p .stops) k ≡ outcomeAt (lentAfter m (drop from (callsIn p k))) p k .answer
-  pub numbers : (k : ℕ) → from ≤ k → k < n → getD (p′ .served) k 0 ≡ outcomeAt (lentAfter m (drop from (callsIn p k))) p k .served
+  pub buffers : (k : ℕ) → from ≤ k → k < n
+      → piece (p′ .answers) (p .stops) k ≡ outcomeAt (lentAfter m (drop from (callsIn p k))) p k .answer
+  pub numbers : (k : ℕ) → from ≤ k → k < n
+      → getD (p′ .served) k 0 ≡ outcomeAt (lentAfter m (drop from (callsIn p k))) p k .served
   -- those before, and what lies behind the last, are untouched
   pub buffers-before : (k : ℕ) → k < from → piece (p′ .answers) (p .stops) k ≡ piece (p .answers) (p .stops) k
   pub numbers-before : (k : ℕ) → k < from → getD (p′ .served) k 0 ≡ getD (p .served) k 0

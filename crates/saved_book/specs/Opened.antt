@@ -9,8 +9,8 @@ use Rattle.ldc.specs.Lists.{flat}
 use Rattle.ldc.specs.Store.{Link, free, Store, size}
 use Rattle.ldc.specs.Layout.{linkSize, linkLimit, levelCount, linkWords, rowOf}
 use Rattle.ldc.specs.Lent.{Lent, placesIn}
-use Rattle.saved_book.specs.Form.{placesSaved, thresholdSaved, cursorSaved, flagSaved1, keySaved1, flagSaved2, keySaved2, cardsStart, cardHead, linkWidth}
-use Rattle.saved_book.specs.Form.{countSaved, cardEnd, listEnd, listsStart, memoryStart}
+use Rattle.saved_book.specs.Form.{placesSaved, thresholdSaved, cursorSaved, flagSaved1, keySaved1, flagSaved2, keySaved2}
+use Rattle.saved_book.specs.Form.{cardsStart, cardHead, linkWidth, countSaved, cardEnd, listEnd, listsStart, memoryStart}
 
 -- ---- cards
 

@@ -69,8 +69,8 @@ startThrough x m (a ∷ acts) = startThrough (startPast x m a) (afterAct m a) ac
 
 -- ---- what it is given
 
--- What saving and opening are given: room for the saved bytes; lent memory of the right sizes, of as many places or more; and in every place that is not
--- free the bytes that it held at saving. Nothing is asked of the rest of the memory opened over.
+-- What saving and opening are given: room for the saved bytes; lent memory of the right sizes, of as many places or more; and in every place that is
+-- not free the bytes that it held at saving. Nothing is asked of the rest of the memory opened over.
 pub record Carried (m : Lent) (buffer : List ℕ) (onto : Lent) : Type 0 where
   pub room : length (savedBytes (storeOf m)) ≤ length buffer
   pub sizes : sizesGood onto ≡ true
