@@ -230,6 +230,7 @@ uint64_t zilgwern_save(const uint8_t *area, size_t area_bytes, const zilgwern_ca
 /*
  * Opens a saved book over an area, which is only read: cards, lists, head and memory become the store's, whatever they held.
  * The area has as many places as the book names, or more: the added ones are free, so a store that ran short of places goes on.
+ * Its other places must hold the bytes of the moment of saving: an area of another moment is refused only where it breaks a rule.
  * As many working cards as cards are wanted; with 0 and 5 they hold the cards of the store as opened, else they stay. *letter
  * is that of the first broken rule of the store as opened with 5, else 0. Gives 0, 1, 21, 22 or 5.
  */

@@ -39,8 +39,9 @@ impl<'a> Store<'a> {
         Ok(buffer)
     }
 
-    /// Opens a saved book over the area of these pieces, of as many places as it names or more; the added ones are free. What the
-    /// other pieces held does not matter; they become the book, or stay as they are where it is refused. As many working rows
+    /// Opens a saved book over the area of these pieces, of as many places as it names or more; the added ones are free. The area
+    /// must be that of the moment of saving: another is refused only where it breaks a rule. What the other pieces held does not
+    /// matter; they become the book, or stay as they are where it is refused. As many working rows
     /// as cards are wanted, whatever they hold.
     ///
     /// ```

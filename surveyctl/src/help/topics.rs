@@ -177,7 +177,8 @@ does not exist yet. With --places the area is taken as one of N places; more
 than the book names are free. Refused by 1 where the area is not 16 to 4,096
 places of 1,024 bytes; by 21 where BOOK is no saved book, or not all of one; by
 22 where it names more places than the area has; by 5 and a letter where the
-store so opened is not sound, as it is with an area of another time.
+store so opened is not sound. An area of another time than the book's may give
+that, or a sound store with other values: keep the two together.
 
   surveyctl --store office.store open --book van.book --area van.area
 ",
