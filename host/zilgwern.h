@@ -3,15 +3,16 @@
  *
  * For recorders written in C or C++ that link target/staticlib/libstore.a (written by `rt staticlib store`).
  *
- * The library keeps nothing of its own between calls, allocates nothing and opens no files; it calls memcpy and memset. A
+ * The library keeps nothing of its own between calls, allocates nothing and opens no files; it calls memcpy, memmove and memset. A
  * store is the five pieces of memory below and nothing else: to copy a store, copy them; to keep one while the van is switched
  * off, keep the area and the bytes that zilgwern_save writes. Any contents are taken: what is no sound store is refused by
  * number, and a refused call changes nothing.
  *
- * Who calls must see to three things, which the library can't check:
+ * Who calls must see to four things, which the library can't check:
  *   - every pointer is good for as many elements as its count says, and aligned as its type is;
  *   - the buffers of one call do not overlap;
- *   - no two calls on the same memory run at the same time.
+ *   - no two calls on the same memory run at the same time;
+ *   - as much stack is left as "Stack" below says.
  * Pointers may not be null, also where the count is 0.
  *
  * Numbers in memory are those of the machine (x86-64: little-endian). Numbers in tables, requests and replies are always
@@ -60,6 +61,13 @@ ZILGWERN_STATIC_ASSERT(ZILGWERN_REPLY_BYTES <= ZILGWERN_ANSWER_ROOM, "every repl
 #define ZILGWERN_SAVED_BYTES(places)                                                                                          \
     (32 + (size_t)(places) * ZILGWERN_SAVED_CARD_BYTES + 2 * ZILGWERN_LEVELS + 2 * (size_t)(places) + 2 +                     \
      ZILGWERN_TABLE_ENTRIES * ZILGWERN_ENTRY_BYTES)
+
+/* ---- Stack ------------------------------------------------------------------------------------------------------------ */
+
+/* Bytes of stack that must be left for a call, whatever the sizes and contents of what is lent. No contract says so: they were
+ * measured (differential/tests/stack.rs) and rounded up, since another version of the compiler may lay out frames otherwise. */
+#define ZILGWERN_RUN_STACK 81920   /* make, check, run and save */
+#define ZILGWERN_OPEN_STACK 131072 /* open: what it reads of the book, but for cards, is there until it is judged */
 
 /* ---- Lent memory ------------------------------------------------------------------------------------------------------ */
 

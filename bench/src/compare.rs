@@ -12,16 +12,35 @@ fn word(bytes: &[u8], at: usize) -> u64 {
     u64::from_le_bytes(bytes[at..at + 8].try_into().expect("eight bytes"))
 }
 
+/// An odd number whose bits have no pattern, to spread what is multiplied with it.
+const SPREAD: u64 = 0x9E37_79B9_7F4A_7C15;
+
+/// What stands for no value.
+const NO_VALUE: u64 = 1;
+
+/// What stands for a value: its length with its first and its last eight bytes, which may be the same ones; or all of its bytes behind
+/// a number for the length, and then it is not what stands for no value.
+#[inline]
+fn ends(value: &[u8]) -> u64 {
+    match value.len() {
+        length @ 8.. => {
+            let first = (word(value, 0) ^ length as u64).wrapping_mul(SPREAD);
+            // Turned, else the highest bits of eight bytes would meet themselves and be gone.
+            first.rotate_left(32) ^ word(value, length - 8)
+        }
+        length => value.iter().fold(2 + length as u64, |sum, byte| sum << 8 | u64::from(*byte)),
+    }
+}
+
 impl Sum {
     #[inline]
     fn take(&mut self, part: u64) {
-        self.0 = (self.0 ^ part).wrapping_mul(0x9E37_79B9_7F4A_7C15);
+        self.0 = (self.0 ^ part).wrapping_mul(SPREAD);
     }
 
     #[inline]
     pub fn value(&mut self, value: Option<&[u8]>) {
-        let part = value.map_or(1, |value| word(value, 0) ^ word(value, value.len() - 8));
-        self.take(part);
+        self.take(value.map_or(NO_VALUE, ends));
     }
 
     #[inline]
@@ -112,7 +131,7 @@ impl Expected {
         for (low, found) in lows.iter().zip(&found) {
             let wanted = self.values.range(low..).take(SCANNED);
             let same = |(one, other): (&(Key, Vec<u8>), (&Key, &Value))| {
-                one.0 == *other.0 && one.1 == other.1
+                one.0 == *other.0 && one.1[..] == other.1[..]
             };
             if found.len() != wanted.clone().count() || !found.iter().zip(wanted).all(same) {
                 return Err(format!("{name} scans other entries from key {low} on than were put"));

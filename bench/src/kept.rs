@@ -5,7 +5,7 @@ use crate::clock::timed;
 use crate::engine::Engine;
 use crate::engines::Sqlite;
 use crate::rounds::median;
-use crate::workload::{Key, Put};
+use crate::workload::{Key, Put, Value};
 use reference::generate::full::full;
 use reference::generate::random::Random;
 use reference::implementation::{Implementation, Reference};
@@ -49,7 +49,7 @@ pub fn kept_times(seed: u64, places: usize, rounds: usize, sqlite: bool) -> Kept
         Place::Free => None,
         Place::Live { table, .. } | Place::Frozen { table } => Some(table),
     });
-    let puts: BTreeMap<Key, [u8; VALUE_BYTES]> =
+    let puts: BTreeMap<Key, Value> =
         tables.flatten().map(|(key, entry)| (*key, padded(entry))).collect();
     let lent = store.encode();
     let mut ways: Vec<Box<dyn Way>> = vec![
@@ -64,12 +64,12 @@ pub fn kept_times(seed: u64, places: usize, rounds: usize, sqlite: bool) -> Kept
 }
 
 /// The value of an entry, as long as values may be, so that all stores keep as many bytes.
-fn padded(entry: &Entry) -> [u8; VALUE_BYTES] {
+fn padded(entry: &Entry) -> Value {
     let mut value = [0; VALUE_BYTES];
     if let Entry::Value(bytes) = entry {
         value[..bytes.len()].copy_from_slice(bytes);
     }
-    value
+    Value::of(&value)
 }
 
 /// What the rounds of a way gave.
@@ -234,7 +234,7 @@ struct Rows {
 }
 
 impl Rows {
-    fn new(mut saved: Sqlite, puts: BTreeMap<Key, [u8; VALUE_BYTES]>) -> Rows {
+    fn new(mut saved: Sqlite, puts: BTreeMap<Key, Value>) -> Rows {
         let puts: Vec<Put> = puts.into_iter().collect();
         saved.put(&puts);
         Rows { saved, puts, opened: None }

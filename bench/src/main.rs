@@ -1,28 +1,26 @@
 //! run: prints what the survey store costs, beside other stores on the same keys. See `--help`.
 
-use bench::checks::{self, check_times};
+use bench::cases::{Case, CaseTimes, CASES};
+use bench::checks::{self, check_times, CheckTimes};
 use bench::compare::Expected;
 use bench::engine::{LOOK_UPS, SCANS};
-use bench::engines::{Kind, KINDS};
+use bench::engines::{Kind, Versions, KINDS, SECOND};
 use bench::kept::kept_times;
 use bench::lists::Listed;
 use bench::options::{Options, HELP};
 use bench::places::{Steps, Watched, Written};
 use bench::proved::Proved;
-use bench::report::{self, grouped, SizeTimes};
-use bench::rounds::Plan;
+use bench::report::{self, grouped};
+use bench::rounds::{Measure, Plan};
+use bench::setup::Setup;
 use bench::thresholds::{count, KEYS_A_PLACE};
 use bench::upper::Upper;
-use bench::workload::Workload;
+use bench::workload::{Lengths, Workload};
 use std::process::ExitCode;
 use std::time::{Duration, Instant};
 
-/// Batches of look-ups of each sort, and of scans, in a round.
-const LOOK_UP_BATCHES: usize = 6;
-const SCAN_BATCHES: usize = 2;
-
-/// Checks of one size, for each round.
-const CHECKS: usize = 7;
+/// Checks of one size, for each round: even, as those of two stores change places.
+const CHECKS: usize = 8;
 
 /// How often long work says how far it is.
 const TOLD_EVERY: Duration = Duration::from_secs(5);
@@ -31,65 +29,90 @@ fn say(words: &str) {
     eprintln!("bench: {words}");
 }
 
-/// The stores that are wanted and there; a word on each that is missing.
-fn present(options: &Options) -> Vec<&'static Kind> {
-    let wanted = KINDS.iter().filter(|kind| options.only.iter().any(|word| word == kind.word));
+/// The stores that are wanted and there, behind those that are opened; a word on each that is missing.
+fn present<'a>(options: &Options, opened: &'a [Kind]) -> Vec<&'a Kind> {
+    let wanted = |kind: &&Kind| {
+        options.only.iter().any(|word| word == kind.word)
+            && opened.iter().all(|other| other.word != kind.word)
+    };
     let there = |kind: &&Kind| {
-        let there = (kind.open)(16).is_some();
+        let there = (kind.open)(Setup::of(16)).is_some();
         if let (false, Some(package)) = (there, kind.package) {
             say(&format!("{} is skipped: the package {package} is not installed", kind.title));
         }
         there
     };
-    wanted.filter(there).collect()
+    opened.iter().chain(KINDS.iter().filter(wanted).filter(there)).collect()
 }
 
-fn times(options: &Options) -> Result<(), String> {
-    let kinds = present(options);
+/// The rounds of one case.
+fn times_of<'a>(
+    options: &Options,
+    case: Case,
+    kinds: &'a [&'a Kind],
+    measures: &[Measure],
+) -> Result<CaseTimes<'a>, String> {
+    let name = report::title(&case);
+    let workload = case.workload(options.seed);
+    let plan = Plan {
+        setup: case.setup,
+        workload: &workload,
+        kinds,
+        measures,
+        rounds: options.rounds * case.rounds,
+        repeats: options.repeats,
+        plain: options.plain,
+    };
+    let mut told: Option<Instant> = None;
+    let times = plan.run(&mut |words| {
+        if told.is_none_or(|told| told.elapsed() > TOLD_EVERY) {
+            told = Some(Instant::now());
+            say(&format!("{name}: {words}"));
+        }
+    })?;
+    Ok(CaseTimes { case, kinds, times })
+}
+
+/// The main tables, with values of such lengths.
+fn times<'a>(
+    options: &Options,
+    kinds: &'a [&'a Kind],
+    lengths: Lengths,
+    measures: &[Measure],
+) -> Result<Vec<CaseTimes<'a>>, String> {
     let mut all = Vec::new();
     for (places, keys) in &options.sizes {
-        say(&format!("P = {}, {} keys", grouped(*places), grouped(*keys)));
-        let workload = Workload::uniform(
-            options.seed,
-            *keys,
-            LOOK_UP_BATCHES * LOOK_UPS,
-            SCAN_BATCHES * SCANS,
-        );
-        let plan = Plan {
-            places: *places,
-            workload: &workload,
-            kinds: &kinds,
-            measures: &options.measures,
-            rounds: options.rounds,
-            repeats: options.repeats,
-            plain: options.plain,
-        };
-        let times = plan.run(&mut |words| say(words))?;
-        let sized = SizeTimes {
-            places: *places,
-            keys: *keys,
-            puts: workload.puts.len(),
-            kinds: &kinds,
-            times,
-        };
-        println!("{}", sized.table(&options.measures));
-        all.push(sized);
+        let times = times_of(options, Case::main(*places, *keys, lengths), kinds, measures)?;
+        println!("{}", times.table(measures));
+        all.push(times);
     }
-    if kinds.iter().any(|kind| kind.word == "zilgwern") && kinds.len() > 1 {
-        println!("{}", report::aims(&all));
-    }
-    Ok(())
+    Ok(all)
 }
 
-fn check(options: &Options) {
-    let largest = options.sizes.iter().map(|size| size.0).max().unwrap_or(0);
-    let second = options.only.iter().any(|word| word == "second");
-    let sizes = checks::SIZES.into_iter().filter(|places| *places <= largest);
+fn largest(options: &Options) -> usize {
+    options.sizes.iter().map(|size| size.0).max().unwrap_or(0)
+}
+
+fn check(options: &Options, versions: Option<Versions>) -> Vec<CheckTimes> {
+    let second = options.only.iter().any(|word| word == SECOND);
+    let sizes = checks::SIZES.into_iter().filter(|places| *places <= largest(options));
     let times = sizes.map(|places| {
         say(&format!("checks of {} places", grouped(places)));
-        check_times(options.seed, places, options.rounds * CHECKS, second)
+        check_times(options.seed, places, options.rounds * CHECKS, versions, second)
     });
-    println!("{}", report::checks(&times.collect::<Vec<_>>()));
+    let times = times.collect::<Vec<_>>();
+    println!("{}", report::checks(&times));
+    times
+}
+
+/// Of the opened stores where there are some, else of the one that is linked.
+fn cases(options: &Options, opened: &[Kind]) -> Result<(), String> {
+    let linked = &KINDS[..1];
+    let kinds: Vec<&Kind> = if opened.is_empty() { linked } else { opened }.iter().collect();
+    let sized = CASES.into_iter().filter(|case| case.setup.places <= largest(options));
+    let times = sized.map(|case| times_of(options, case, &kinds, &Measure::ALL));
+    println!("{}", report::cases(&times.collect::<Result<Vec<_>, _>>()?));
+    Ok(())
 }
 
 /// Keeping full stores of each size.
@@ -163,13 +186,33 @@ fn by_threshold(options: &Options) -> Result<(), String> {
     Ok(())
 }
 
-fn run(options: &Options) -> Result<(), String> {
-    println!("{}", report::about(options.seed, options.rounds));
+/// Times beside the other stores, and checks; then what they say of the aims.
+fn compare(options: &Options, versions: Option<Versions>, opened: &[Kind]) -> Result<(), String> {
+    let timed = !options.measures.is_empty() || options.mixed;
+    let kinds = if timed { present(options, opened) } else { Vec::new() };
+    let mut sizes = Vec::new();
     if !options.measures.is_empty() {
-        times(options)?;
+        sizes = times(options, &kinds, Lengths::Longest, &options.measures)?;
+        report::aims(&sizes).iter().for_each(|table| println!("{table}"));
     }
-    if options.check {
-        check(options);
+    if options.mixed {
+        // The second implementation would take longer than all others together, and says nothing new here.
+        let kinds: Vec<&Kind> = kinds.iter().copied().filter(|it| it.word != SECOND).collect();
+        times(options, &kinds, Lengths::Mixed, &Measure::ALL)?;
+    }
+    let checks = if options.check { check(options, versions) } else { Vec::new() };
+    let places: Vec<usize> = options.sizes.iter().map(|size| size.0).collect();
+    let against = report::against_before(&places, &sizes, &checks);
+    against.iter().for_each(|table| println!("{table}"));
+    Ok(())
+}
+
+fn run(options: &Options, versions: Option<Versions>) -> Result<(), String> {
+    let opened: Vec<Kind> = versions.into_iter().flat_map(Versions::kinds).collect();
+    println!("{}", report::about(options.seed, options.rounds));
+    compare(options, versions, &opened)?;
+    if options.cases {
+        cases(options, &opened)?;
     }
     if options.kept {
         kept(options);
@@ -183,24 +226,37 @@ fn run(options: &Options) -> Result<(), String> {
     Ok(())
 }
 
+/// The libraries that are to be opened, if any.
+fn versions(options: &Options) -> Result<Option<Versions>, String> {
+    match (&options.now, &options.before) {
+        (Some(now), Some(before)) => Versions::open(now, before).map(Some),
+        (None, None) => Ok(None),
+        _ => Err("bench/run makes two shared objects, and --now names the other".to_string()),
+    }
+}
+
+/// Ends with a word, status 2 where the run could not begin.
+fn ended(words: &str, status: u8) -> ExitCode {
+    say(words);
+    ExitCode::from(status)
+}
+
 fn main() -> ExitCode {
     let words: Vec<String> = std::env::args().skip(1).collect();
     let options = match Options::of(&words) {
         Ok(options) => options,
-        Err(words) => {
-            say(&words);
-            return ExitCode::from(2);
-        }
+        Err(words) => return ended(&words, 2),
     };
     if options.help {
         print!("{HELP}");
         return ExitCode::SUCCESS;
     }
-    match run(&options) {
+    let versions = match versions(&options) {
+        Ok(versions) => versions,
+        Err(words) => return ended(&format!("--before: {words}"), 2),
+    };
+    match run(&options, versions) {
         Ok(()) => ExitCode::SUCCESS,
-        Err(words) => {
-            say(&words);
-            ExitCode::from(1)
-        }
+        Err(words) => ended(&words, 1),
     }
 }

@@ -13,7 +13,8 @@ usage: bench/run [OPTIONS]
   --rounds N        rounds of each measure, medians are told (7)
   --places P        one size of store alone: 4096 or 256
   --only STORES     of zilgwern, second, btreemap, lmdb, leveldb, sqlite; with commas between
-  --measure NAMES   of put, hit, miss, scan, check, kept, written, threshold; with commas between
+  --before FILE.a   of bench/run: an earlier static library takes part in the same rounds, with a table of the aims against it
+  --measure NAMES   of put, hit, miss, scan, mixed, check, cases, kept, written, threshold; with commas between
   --thresholds LIST of the table 'threshold': numbers from 1 to 8, with commas between (1,4,8)
   --repeat N        look-ups and scans of a round so many times (1)
   --plain           compare no answers and time no empty runs: for a profile of one store
@@ -24,14 +25,19 @@ The tables go to standard output, progress to standard error. LMDB, LevelDB and 
 libleveldb1d and libsqlite3-0; bench/run installs them where it may, and a store that is not there is left out with a word. All
 answers are compared with what was put: the status is 1 where one differs.
 
+'mixed' has put, hit, miss and scan once more with values of all lengths; elsewhere they are as long as they may be. The second
+implementation is left out there. 'cases' has the four for stores beside those of the main tables: a small one, other thresholds,
+values of all lengths, a level 0 that nobody tidies; of the proved store alone, and of the earlier one where it is given.
+
 'kept' has what it costs to keep a full store between jobs: to save its book and to open it again, beside the second implementation,
 the five pieces of memory copied as they lie, and SQLite's bytes of the same entries. Each way checks what it reads.
 
-Times are those of stores with threshold 4. The last two tables count and time nothing, so they are the same on every machine:
-'written' has the places that compaction writes, beside upper-level driven compaction, with as many keys as fit with threshold 4;
-'threshold' has the thresholds side by side on the same keys, fewer than above so that they fit with threshold 1 too: places written
-for each put (what compaction costs in all), the most by one step (how long a single tidy may take), and the steps that a flush needs
-(tidies to ask for behind it). A higher threshold writes less and leaves more links for look-ups and scans to pass.
+Times are those of stores with threshold 4, but for two of the cases. The last two tables count and time nothing, so they are the
+same on every machine: 'written' has the places that compaction writes, beside upper-level driven compaction, with as many keys as
+fit with threshold 4; 'threshold' has the thresholds side by side on the same keys, fewer than above so that they fit with threshold
+1 too: places written for each put (what compaction costs in all), the most by one step (how long a single tidy may take), and the
+steps that a flush needs (tidies to ask for behind it). A higher threshold writes less and leaves more links for look-ups and scans
+to pass.
 ";
 
 /// Sizes of stores, and how many keys fit when half of them are overwritten.
@@ -48,8 +54,13 @@ pub struct Options {
     pub sizes: Vec<(usize, usize)>,
     /// Words of stores.
     pub only: Vec<String>,
+    /// Shared objects of today's library and of an earlier one; bench/run makes both of them.
+    pub now: Option<String>,
+    pub before: Option<String>,
     pub measures: Vec<Measure>,
+    pub mixed: bool,
     pub check: bool,
+    pub cases: bool,
     pub kept: bool,
     pub written: bool,
     pub by_threshold: bool,
@@ -67,8 +78,12 @@ impl Options {
             repeats: 1,
             sizes: Vec::new(),
             only: KINDS.iter().map(|kind| kind.word.to_string()).collect(),
+            now: None,
+            before: None,
             measures: Measure::ALL.to_vec(),
+            mixed: true,
             check: true,
+            cases: true,
             kept: true,
             written: true,
             by_threshold: true,
@@ -112,6 +127,8 @@ impl Options {
                 }
             }
             "--only" => self.only = stores(&value()?)?,
+            "--now" => self.now = Some(value()?),
+            "--before" => self.before = Some(value()?),
             "--measure" => self.take_measures(&value()?)?,
             "--thresholds" => self.thresholds = thresholds(name, &value()?)?,
             _ => return Err(format!("{name}: no such option; see `bench/run --help`")),
@@ -120,13 +137,16 @@ impl Options {
     }
 
     fn take_measures(&mut self, words: &str) -> Result<(), String> {
-        (self.check, self.kept, self.written, self.by_threshold) = (false, false, false, false);
+        (self.mixed, self.check, self.cases) = (false, false, false);
+        (self.kept, self.written, self.by_threshold) = (false, false, false);
         self.measures.clear();
         for word in words.split(',') {
             let measure = Measure::ALL.into_iter().find(|measure| measure.word() == word);
             match (word, measure) {
                 (_, Some(measure)) => self.measures.push(measure),
+                ("mixed", _) => self.mixed = true,
                 ("check", _) => self.check = true,
+                ("cases", _) => self.cases = true,
                 ("kept", _) => self.kept = true,
                 ("written", _) => self.written = true,
                 ("threshold", _) => self.by_threshold = true,

@@ -4,6 +4,7 @@ use crate::clock::timed;
 use crate::compare::{Expected, Sum};
 use crate::engine::{Engine, LOOK_UPS, PUTS, SCANS};
 use crate::engines::Kind;
+use crate::setup::Setup;
 use crate::workload::Workload;
 
 #[derive(Clone, Copy, PartialEq, Eq, Debug)]
@@ -85,7 +86,7 @@ impl Times {
 }
 
 pub struct Plan<'a> {
-    pub places: usize,
+    pub setup: Setup,
     pub workload: &'a Workload,
     pub kinds: &'a [&'a Kind],
     pub measures: &'a [Measure],
@@ -157,21 +158,24 @@ impl Plan<'_> {
         for round in 0..self.rounds {
             progress(&format!("round {} of {}", round + 1, self.rounds));
             let stores = self.kinds.len();
-            // Another store begins in each round.
-            let order: Vec<usize> = (0..stores).map(|number| (number + round) % stores).collect();
-            let open = |kind: &&Kind| (kind.open)(self.places).expect("it was there before");
-            let mut engines: Vec<Box<dyn Engine>> = self.kinds.iter().map(open).collect();
+            // Another store is opened first and begins in each round.
+            let order = (0..stores).map(|number| (number + round) % stores);
+            let open = |store: usize| {
+                let engine = (self.kinds[store].open)(self.setup);
+                (store, engine.expect("it was there before"))
+            };
+            let mut engines: Vec<(usize, Box<dyn Engine>)> = order.map(open).collect();
             for measure in Measure::ALL {
-                for store in &order {
-                    if let Some(taken) = self.measure(&expected, &mut *engines[*store], measure)? {
+                for (store, engine) in &mut engines {
+                    if let Some(taken) = self.measure(&expected, &mut **engine, measure)? {
                         times[*store].add(measure, taken);
                     }
                 }
             }
             if !self.plain && (round == 0 || round + 1 == self.rounds) {
-                let compare =
-                    |engine: &mut Box<dyn Engine>| expected.compare(self.workload, &mut **engine);
-                engines.iter_mut().try_for_each(compare)?;
+                for (_, engine) in &mut engines {
+                    expected.compare(self.workload, &mut **engine)?;
+                }
             }
         }
         Ok(times)

@@ -1,7 +1,7 @@
 //! What the threshold does: places that compaction writes and steps that a flush needs, on the same keys for several thresholds.
 //! They are counted by the store's replies, many steps to a list: `places` looks at the whole area after each single one.
 
-use crate::lists::{Listed, Runner};
+use crate::lists::Listed;
 use crate::places::{tables, Steps, Written};
 use crate::workload::Put;
 
@@ -12,7 +12,7 @@ pub const KEYS_A_PLACE: usize = 3;
 const AT_ONCE: usize = 16;
 
 /// Leads a new store through all puts as `Watched` does, and counts the same.
-pub fn count<R: Runner>(store: &mut Listed<R>, puts: &[Put]) -> Written {
+pub fn count(store: &mut Listed, puts: &[Put]) -> Written {
     let mut written = Written::default();
     for batch in tables(puts) {
         store.only_put(batch);
@@ -27,7 +27,7 @@ pub fn count<R: Runner>(store: &mut Listed<R>, puts: &[Put]) -> Written {
 }
 
 /// Tidies until there is nothing to do. Each step takes one table off its level; what is more there afterwards a merge has written.
-fn settle<R: Runner>(store: &mut Listed<R>, written: &mut Written) {
+fn settle(store: &mut Listed, written: &mut Written) {
     let mut live = store.live();
     loop {
         let told = store.told_tidies(AT_ONCE);

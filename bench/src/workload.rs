@@ -1,12 +1,46 @@
-//! Keys and values: random sewer lines and millimetres, each key put once and half of them overwritten; and skewed puts.
+//! Keys and values: random sewer lines and millimetres, each key put once and half of them overwritten; and skewed puts. Values are
+//! as long as they may be, or of any length.
 
 use reference::generate::random::Random;
 use reference::limits::VALUE_BYTES;
 use std::collections::{BTreeMap, BTreeSet};
+use std::ops::Deref;
 
 pub type Key = u64;
-pub type Value = [u8; VALUE_BYTES];
 pub type Put = (Key, Value);
+
+/// The bytes of a value, in place: puts stand side by side in memory whatever their lengths, so no store waits for them.
+#[derive(Clone, Copy, PartialEq, Eq, PartialOrd, Ord, Debug)]
+pub struct Value {
+    length: u8,
+    /// Zero behind the length.
+    bytes: [u8; VALUE_BYTES],
+}
+
+impl Value {
+    pub fn of(bytes: &[u8]) -> Value {
+        let mut value = Value { length: bytes.len() as u8, bytes: [0; VALUE_BYTES] };
+        value.bytes[..bytes.len()].copy_from_slice(bytes);
+        value
+    }
+}
+
+impl Deref for Value {
+    type Target = [u8];
+
+    #[inline]
+    fn deref(&self) -> &[u8] {
+        &self.bytes[..usize::from(self.length)]
+    }
+}
+
+/// How long values are: as long as they may be, or each of any length. With one length for all it is easy to say where the entries
+/// of a table stand.
+#[derive(Clone, Copy, PartialEq, Eq, Debug)]
+pub enum Lengths {
+    Longest,
+    Mixed,
+}
 
 /// Lines of a town's sewers, and the length of the longest one in millimetres.
 const LINES: usize = 10_000;
@@ -36,25 +70,40 @@ fn distinct(random: &mut Random, count: usize) -> Vec<Key> {
     keys
 }
 
-/// A value that no other put has.
-fn any_value(random: &mut Random) -> Value {
-    let mut value = [0; VALUE_BYTES];
-    for part in value.chunks_mut(8) {
+/// Random bytes: if they are as many as may be, no other put has the same.
+fn any_value(random: &mut Random, lengths: Lengths) -> Value {
+    let length = match lengths {
+        Lengths::Longest => VALUE_BYTES,
+        Lengths::Mixed => random.below(VALUE_BYTES + 1),
+    };
+    let mut bytes = [0; VALUE_BYTES];
+    for part in bytes[..length].chunks_mut(8) {
         part.copy_from_slice(&random.word().to_le_bytes()[..part.len()]);
     }
-    value
+    Value::of(&bytes[..length])
 }
 
 impl Workload {
-    /// So many keys, half of them put a second time; then as many look-ups of each sort, and scans.
+    /// So many keys, half of them put a second time; then as many look-ups of each sort, and scans. Values are the longest.
     pub fn uniform(seed: u64, keys: usize, look_ups: usize, scans: usize) -> Workload {
+        Workload::of_lengths(Lengths::Longest, seed, keys, look_ups, scans)
+    }
+
+    /// The same with values of such lengths.
+    pub fn of_lengths(
+        lengths: Lengths,
+        seed: u64,
+        keys: usize,
+        look_ups: usize,
+        scans: usize,
+    ) -> Workload {
         let random = &mut Random::new(seed);
         let known = distinct(random, keys);
         let mut again = known.clone();
         random.shuffle(&mut again);
         again.truncate(keys / 2);
         let order = [known.clone(), again].concat();
-        let puts = order.into_iter().map(|key| (key, any_value(random))).collect();
+        let puts = order.into_iter().map(|key| (key, any_value(random, lengths))).collect();
         Workload::of(random, puts, &known, look_ups, scans)
     }
 
@@ -68,7 +117,7 @@ impl Workload {
         let mut draw = || {
             let at = random.word() as f64 / u64::MAX as f64 * sum;
             let rank = sums.partition_point(|below| *below < at).min(keys - 1);
-            (known[rank], any_value(random))
+            (known[rank], any_value(random, Lengths::Longest))
         };
         let puts: Vec<Put> = (0..keys + keys / 2).map(|_| draw()).collect();
         let met: Vec<Key> = puts.iter().map(|(key, _)| *key).collect();

@@ -1,12 +1,13 @@
 //! All stores that are here give the same answers, a store that gives others is found, and the two survey stores leave the same bytes.
 
-use bench::compare::Expected;
+use bench::compare::{Expected, Sum};
 use bench::engine::{Engine, SeeEntry, SeeValue, LOOK_UPS, PUTS, SCANS};
 use bench::engines::{Kind, Second, KINDS};
 use bench::lists::Listed;
 use bench::proved::Proved;
 use bench::rounds::{median, Measure, Plan};
-use bench::workload::{Key, Put, Value, Workload};
+use bench::setup::Setup;
+use bench::workload::{Key, Lengths, Put, Value, Workload};
 use reference::limits::VALUE_BYTES;
 use std::collections::{BTreeMap, BTreeSet};
 
@@ -15,21 +16,11 @@ fn workload(seed: u64) -> Workload {
     Workload::uniform(seed, 1200, 500, 200)
 }
 
-#[test]
-fn all_stores_agree() {
-    let here = |kind: &&Kind| {
-        let there = (kind.open)(16).is_some();
-        if !there {
-            println!("{} is skipped: the package {:?} is not installed", kind.title, kind.package);
-        }
-        there
-    };
-    let kinds: Vec<&Kind> = KINDS.iter().filter(here).collect();
-    let workload = workload(1);
+fn agree(kinds: &[&Kind], workload: &Workload) {
     let plan = Plan {
-        places: 256,
-        workload: &workload,
-        kinds: &kinds,
+        setup: Setup::of(256),
+        workload,
+        kinds,
         measures: &Measure::ALL,
         rounds: 2,
         repeats: 2,
@@ -46,19 +37,36 @@ fn all_stores_agree() {
     }
 }
 
+#[test]
+fn all_stores_agree() {
+    let here = |kind: &&Kind| {
+        let there = (kind.open)(Setup::of(16)).is_some();
+        if !there {
+            println!("{} is skipped: the package {:?} is not installed", kind.title, kind.package);
+        }
+        there
+    };
+    let kinds: Vec<&Kind> = KINDS.iter().filter(here).collect();
+    agree(&kinds, &workload(1));
+    let mixed = Workload::of_lengths(Lengths::Mixed, 1, 1200, 500, 200);
+    let lengths: BTreeSet<usize> = mixed.puts.iter().map(|(_, value)| value.len()).collect();
+    assert_eq!(lengths, (0..=VALUE_BYTES).collect(), "values of every length");
+    agree(&kinds, &mixed);
+}
+
 /// Keys are unsigned in the survey stores; in the others they must be made so.
 #[test]
 fn all_stores_agree_at_the_ends_of_the_key_range() {
     let middle: Key = 1 << 63;
     let keys = [0, 1, 255, 256, middle - 1, middle, middle + 1, Key::MAX - 1, Key::MAX];
     let workload = Workload {
-        puts: keys.map(|key| (key, [key as u8 | 1; VALUE_BYTES])).to_vec(),
+        puts: keys.map(|key| (key, Value::of(&[key as u8 | 1; VALUE_BYTES]))).to_vec(),
         hits: keys.to_vec(),
         misses: vec![2, 257, middle - 2, middle + 2, Key::MAX - 2],
         scans: [keys.to_vec(), vec![2, middle - 2, middle + 2]].concat(),
     };
     let expected = Expected::of(&workload);
-    for mut engine in KINDS.iter().filter_map(|kind| (kind.open)(16)) {
+    for mut engine in KINDS.iter().filter_map(|kind| (kind.open)(Setup::of(16))) {
         engine.put(&workload.puts);
         expected.compare(&workload, &mut *engine).unwrap();
     }
@@ -113,7 +121,12 @@ impl Engine for Faulty {
         let middle = self.values.len() / 2;
         let key = *self.values.keys().nth(middle).expect("a key");
         match self.wrong {
-            Wrong::ChangesTheMiddleOfAValue => self.values.get_mut(&key).expect("there")[20] ^= 1,
+            Wrong::ChangesTheMiddleOfAValue => {
+                let value = self.values.get_mut(&key).expect("there");
+                let mut bytes = value.to_vec();
+                bytes[20] ^= 1;
+                *value = Value::of(&bytes);
+            }
             Wrong::ForgetsAKey => drop(self.values.remove(&key)),
             _ => {}
         }
@@ -166,8 +179,8 @@ fn a_wrong_store_is_found() {
 #[test]
 fn a_wrong_store_ends_the_rounds() {
     static WRONG: [Kind; 2] = [
-        Kind { word: "a", title: "a", package: None, open: |_| faulty(Wrong::KeepsTheOlderValue) },
-        Kind { word: "b", title: "b", package: None, open: |_| faulty(Wrong::Nothing) },
+        Kind { word: "a", title: "a", package: None, open: &|_| faulty(Wrong::KeepsTheOlderValue) },
+        Kind { word: "b", title: "b", package: None, open: &|_| faulty(Wrong::Nothing) },
     ];
     fn faulty(wrong: Wrong) -> Option<Box<dyn Engine>> {
         Some(Box::new(Faulty { wrong, values: BTreeMap::new() }))
@@ -182,7 +195,7 @@ fn a_wrong_store_ends_the_rounds() {
     ] {
         let kinds = [kind];
         let plan = Plan {
-            places: 16,
+            setup: Setup::of(16),
             workload: &workload,
             kinds: &kinds,
             measures: &[measure],
@@ -193,6 +206,27 @@ fn a_wrong_store_ends_the_rounds() {
         };
         assert_eq!(plan.run(&mut |_| {}).is_err(), fails, "{} {measure:?}", kind.word);
     }
+}
+
+/// They see both ends of a value, whatever its length, and that there is one.
+#[test]
+fn sums_tell_values_apart() {
+    let sum = |value: Option<&[u8]>| {
+        let mut sum = Sum::default();
+        sum.value(value);
+        format!("{sum:?}")
+    };
+    let bytes: Vec<u8> = (1..=VALUE_BYTES as u8).collect();
+    let mut sums = vec![sum(None), sum(Some(&[]))];
+    for length in 1..=VALUE_BYTES {
+        let value = &bytes[..length];
+        let mut first = value.to_vec();
+        first[0] ^= 0x80;
+        let mut last = value.to_vec();
+        last[length - 1] ^= 0x40;
+        sums.extend([value, &first, &last].map(|value| sum(Some(value))));
+    }
+    assert_eq!(sums.iter().collect::<BTreeSet<_>>().len(), 2 + 3 * VALUE_BYTES);
 }
 
 #[test]

@@ -1,11 +1,12 @@
 //! The command line and the tables.
 
+use bench::checks::CheckTimes;
 use bench::clock::timed;
 use bench::engines::KINDS;
 use bench::kept::{KeptTimes, WayTimes};
 use bench::options::{Options, SIZES};
 use bench::places::Written;
-use bench::report::{by_threshold, figures, grouped, kept, written};
+use bench::report::{against_before, by_threshold, checks, figures, grouped, kept, written};
 use bench::rounds::Measure;
 use std::hint::black_box;
 use std::thread::sleep;
@@ -23,7 +24,8 @@ fn options_are_read() {
         (all.seed, all.rounds, all.sizes, all.only.len()),
         (1, 7, SIZES.to_vec(), KINDS.len())
     );
-    assert!(all.check && all.kept && all.written && all.by_threshold);
+    assert!(all.check && all.kept && all.written && all.by_threshold && all.mixed && all.cases);
+    assert_eq!((all.now, all.before), (None, None));
     assert_eq!(all.measures, Measure::ALL);
     assert_eq!(all.thresholds, [1, 4, 8]);
     let quick = options("--quick --seed=5").unwrap();
@@ -35,9 +37,12 @@ fn options_are_read() {
         (vec!["lmdb".into(), "zilgwern".into()], vec![Measure::Scan])
     );
     assert_eq!((one.check, one.written, one.sizes, one.rounds), (true, false, vec![SIZES[0]], 2));
-    assert!(!one.by_threshold && !one.kept);
+    assert!(!one.by_threshold && !one.kept && !one.mixed && !one.cases);
     let kept = options("--measure kept").unwrap();
     assert!(kept.kept && !kept.check && kept.measures.is_empty());
+    let beside = options("--measure mixed,cases --now one.so --before=two.so").unwrap();
+    assert!(beside.mixed && beside.cases && !beside.check && beside.measures.is_empty());
+    assert_eq!((beside.now, beside.before), (Some("one.so".into()), Some("two.so".into())));
     let counted = options("--measure threshold --thresholds 8,2").unwrap();
     assert_eq!((counted.by_threshold, counted.check, counted.written), (true, false, false));
     assert_eq!((counted.thresholds, counted.measures), (vec![8, 2], vec![]));
@@ -49,6 +54,7 @@ fn wrong_words_are_named() {
         ("--fast", "--fast"),
         ("--seed", "--seed"),
         ("--seed x", "x"),
+        ("--before", "--before"),
         ("--places 100", "100"),
         ("--only lmdb,rocks", "rocks"),
         ("--measure get", "get"),
@@ -69,6 +75,46 @@ fn numbers_have_three_figures() {
         [7, 999, 1000, 4096, 1234567].map(grouped),
         ["7", "999", "1,000", "4,096", "1,234,567"]
     );
+}
+
+#[test]
+fn checks_have_a_column_for_an_earlier_store_where_there_is_one() {
+    let one = CheckTimes {
+        places: 1024,
+        tables: 680,
+        links: 1360,
+        proved: 102.4,
+        before: None,
+        second: Some(256.0),
+    };
+    let lines = |table: String| table.lines().map(str::to_string).collect::<Vec<_>>();
+    let table = lines(checks(&[CheckTimes { second: one.second, ..one }]));
+    assert_eq!(table[1], "|---|---|---|---|---|---|");
+    assert_eq!(table[2], "| 1,024 | 680 | 1,360 | 102 | 100 | 256 (2.50) |");
+    let table = lines(checks(&[CheckTimes { before: Some(204.8), ..one }]));
+    assert_eq!(table[1], "|---|---|---|---|---|---|---|");
+    assert_eq!(table[2], "| 1,024 | 680 | 1,360 | 102 | 100 | 205 (2.00) | 256 (2.50) |");
+}
+
+#[test]
+fn the_aim_of_the_check_is_told() {
+    let check = |places, proved| CheckTimes {
+        places,
+        tables: 0,
+        links: 0,
+        proved,
+        before: Some(100.0),
+        second: None,
+    };
+    for (proved, cell) in [(50.0, "0.500 yes"), (60.0, "0.600 no")] {
+        let table = against_before(&[4096, 256], &[], &[check(256, 10.0), check(4096, proved)]);
+        let table = table.unwrap();
+        let lines: Vec<&str> = table.lines().collect();
+        assert_eq!(lines.len(), 3, "{table}");
+        assert!(lines[0].ends_with(" | at most | P = 4,096 | P = 256 |"), "{}", lines[0]);
+        assert_eq!(lines[2], format!("| check of 4,096 full places | 0.50 | {cell} |  |"));
+    }
+    assert_eq!(against_before(&[256], &[], &[check(256, 10.0)]), None);
 }
 
 #[test]

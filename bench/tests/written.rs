@@ -7,7 +7,7 @@ use bench::places::{Steps, Watched, Written};
 use bench::proved::Proved;
 use bench::thresholds::{count, KEYS_A_PLACE};
 use bench::upper::Upper;
-use bench::workload::{Key, Put, Workload};
+use bench::workload::{Key, Put, Value, Workload};
 use reference::limits::VALUE_BYTES;
 use reference::rules::check;
 
@@ -66,9 +66,13 @@ fn counts_by_replies_are_those_found_in_the_area() {
     }
 }
 
+fn filled(byte: u8) -> Value {
+    Value::of(&[byte; VALUE_BYTES])
+}
+
 /// Sixteen puts of keys that rise by a step.
 fn rising(from: Key, step: Key) -> Vec<Put> {
-    (0..16).map(|number| (from + number * step, [number as u8; VALUE_BYTES])).collect()
+    (0..16).map(|number| (from + number * step, filled(number as u8))).collect()
 }
 
 #[test]
@@ -93,7 +97,7 @@ fn apart(from: Key, count: usize) -> Vec<Put> {
 }
 
 /// Two tables on level 1 with sixteen keys each, from 0 and from 10,000 on, to which two others are linked after each other.
-fn linked_twice(store: &mut Listed<Proved>, others: [Vec<Put>; 2]) -> [Written; 2] {
+fn linked_twice(store: &mut Listed, others: [Vec<Put>; 2]) -> [Written; 2] {
     let [third, fourth] = others;
     // The oldest moves down.
     let written = led(store, &[rising(0, 100), rising(10_000, 100), third].concat());
@@ -126,11 +130,11 @@ fn light_links_are_merged_at_the_threshold() {
 
 #[test]
 fn the_memory_table_takes_sixteen_keys_and_not_sixteen_puts() {
-    let puts: Vec<Put> = (0..40).map(|number| (number % 20, [1; VALUE_BYTES])).collect();
+    let puts: Vec<Put> = (0..40).map(|number| (number % 20, filled(1))).collect();
     // Keys 0 to 15, then 16 to 19 with 0 to 11, then 12 to 19.
     let written = led(&mut Listed::new(Proved, 16), &puts);
     assert_eq!((written.puts, written.flushes), (40, 3));
-    let puts: Vec<Put> = (0..40).map(|number| (number % 16, [1; VALUE_BYTES])).collect();
+    let puts: Vec<Put> = (0..40).map(|number| (number % 16, filled(1))).collect();
     assert_eq!(led(&mut Listed::new(Proved, 16), &puts).flushes, 1);
 }
 
@@ -139,7 +143,7 @@ fn the_memory_table_takes_sixteen_keys_and_not_sixteen_puts() {
 fn a_table_written_over_an_equal_one_counts() {
     let mut upper = Upper::new(16);
     let mut watched = Watched::new(&mut upper);
-    let same: Vec<Put> = vec![(1, [7; VALUE_BYTES])];
+    let same: Vec<Put> = vec![(1, filled(7))];
     for _ in 0..40 {
         watched.lead(&same, &mut |_| {});
     }

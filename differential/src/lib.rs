@@ -6,7 +6,9 @@ pub mod fuzz;
 mod fuzz_saved;
 pub mod guarded;
 pub mod histories;
+pub mod measured;
 pub mod refused;
+pub mod stack;
 
 use guarded::Guarded;
 use reference::implementation::{Implementation, Ran, Saved};
@@ -87,6 +89,18 @@ pub struct Outcome {
     pub written: u64,
 }
 
+impl Outcome {
+    /// As trials have it.
+    fn narrow(self) -> Ran {
+        Ran {
+            number: narrow("number", self.number),
+            letter: narrow("letter", self.letter),
+            served: narrow("requests served", self.served),
+            written: narrow("bytes written", self.written),
+        }
+    }
+}
+
 /// Runs a list. Fails if the call changed the list or touched a byte outside of what it was lent.
 pub fn run(lent: &mut Lent, list: &[u8], answers: &mut [u8]) -> Outcome {
     let mut pieces = Pieces::of(lent);
@@ -108,6 +122,17 @@ pub struct SaveOutcome {
     pub number: u64,
     pub letter: u64,
     pub length: u64,
+}
+
+impl SaveOutcome {
+    /// As trials have it.
+    fn narrow(self) -> Saved {
+        Saved {
+            number: narrow("number", self.number),
+            letter: narrow("letter", self.letter),
+            length: narrow("saved length", self.length),
+        }
+    }
 }
 
 /// Saves the book. Fails if the call changed what was lent or touched a byte outside of the buffer.
@@ -159,22 +184,11 @@ impl Implementation for Proved {
     }
 
     fn run(&self, lent: &mut Lent, list: &[u8], answers: &mut [u8]) -> Ran {
-        let outcome = run(lent, list, answers);
-        Ran {
-            number: narrow("number", outcome.number),
-            letter: narrow("letter", outcome.letter),
-            served: narrow("requests served", outcome.served),
-            written: narrow("bytes written", outcome.written),
-        }
+        run(lent, list, answers).narrow()
     }
 
     fn save(&self, lent: &Lent, buffer: &mut [u8]) -> Saved {
-        let outcome = save(lent, buffer);
-        Saved {
-            number: narrow("number", outcome.number),
-            letter: narrow("letter", outcome.letter),
-            length: narrow("saved length", outcome.length),
-        }
+        save(lent, buffer).narrow()
     }
 
     fn open(&self, lent: &mut Lent, saved: &[u8], working: &mut [Row]) -> (u16, u8) {
@@ -183,7 +197,7 @@ impl Implementation for Proved {
     }
 }
 
-/// The pieces as they stand, without guards and copies, for timing.
+/// The pieces as they stand, without guards and copies, for timing and for measuring stack.
 fn in_place(lent: &mut Lent) -> zilgwern_sys::Pieces {
     let Lent { area, cards, lists, head, memory } = lent;
     zilgwern_sys::Pieces {

@@ -150,7 +150,7 @@ impl Engine for Lmdb {
     fn put(&mut self, batch: &[Put]) {
         let writing = self.begin(0);
         for (key, value) in batch {
-            let (mut key, mut value) = (Bytes::of(key), Bytes::of(value));
+            let (mut key, mut value) = (Bytes::of(key), Bytes::of(&value[..]));
             // SAFETY: key and value are only read.
             let status =
                 unsafe { (self.call.mdb_put)(writing, self.database, &mut key, &mut value, 0) };

@@ -5,15 +5,18 @@ mod folder;
 mod leveldb;
 mod library;
 mod lmdb;
+mod opened;
 mod second;
 mod sqlite;
 
+pub use opened::Versions;
 pub use second::Second;
 pub use sqlite::Sqlite;
 
 use crate::engine::Engine;
 use crate::lists::Listed;
 use crate::proved::Proved;
+use crate::setup::Setup;
 
 /// A store by the word that names it on the command line.
 pub struct Kind {
@@ -22,47 +25,52 @@ pub struct Kind {
     pub title: &'static str,
     /// The Debian package that has its library; none where it is built in.
     pub package: Option<&'static str>,
-    /// An empty store, if its library is there; the survey stores get so many places.
-    pub open: fn(usize) -> Option<Box<dyn Engine>>,
+    /// An empty store, if its library is there; the survey stores are set up like this, the others have nothing of the kind.
+    pub open: &'static (dyn Fn(Setup) -> Option<Box<dyn Engine>> + Sync),
 }
 
-/// The first is the one that the others are compared with.
+/// The words of the store that the others are compared with, of an earlier one, and of the second implementation.
+pub const PROVED: &str = "zilgwern";
+pub const BEFORE: &str = "before";
+pub const SECOND: &str = "second";
+
+/// The stores of every run; with an earlier one two opened ones take the place of the first.
 pub const KINDS: [Kind; 6] = [
     Kind {
-        word: "zilgwern",
+        word: PROVED,
         title: "proved store",
         package: None,
-        open: |places| boxed(Some(Listed::new(Proved, places))),
+        open: &|setup| boxed(Some(Listed::set_up(Proved, setup))),
     },
     Kind {
-        word: "second",
+        word: SECOND,
         title: "second implementation",
         package: None,
-        open: |places| boxed(Some(Listed::new(Second, places))),
+        open: &|setup| boxed(Some(Listed::set_up(Second, setup))),
     },
     Kind {
         word: "btreemap",
         title: "BTreeMap",
         package: None,
-        open: |_| boxed(Some(btree::Tree::default())),
+        open: &|_| boxed(Some(btree::Tree::default())),
     },
     Kind {
         word: "lmdb",
         title: "LMDB",
         package: Some("liblmdb0"),
-        open: |_| boxed(lmdb::Lmdb::open()),
+        open: &|_| boxed(lmdb::Lmdb::open()),
     },
     Kind {
         word: "leveldb",
         title: "LevelDB",
         package: Some("libleveldb1d"),
-        open: |_| boxed(leveldb::LevelDb::open()),
+        open: &|_| boxed(leveldb::LevelDb::open()),
     },
     Kind {
         word: "sqlite",
         title: "SQLite",
         package: Some("libsqlite3-0"),
-        open: |_| boxed(sqlite::Sqlite::open()),
+        open: &|_| boxed(sqlite::Sqlite::open()),
     },
 ];
 

@@ -1,5 +1,6 @@
 //! The second implementation: the same lists over the same memory.
 
+use super::SECOND;
 use crate::lists::Runner;
 use reference::implementation::{Implementation, Reference};
 use reference::lent::Lent;
@@ -7,18 +8,20 @@ use reference::lent::Lent;
 pub struct Second;
 
 impl Runner for Second {
-    const NAME: &'static str = "second";
+    fn name(&self) -> &'static str {
+        SECOND
+    }
 
-    fn make(places: usize, threshold: u64) -> Lent {
+    fn make(&self, places: usize, threshold: u64) -> Lent {
         let mut lent = Lent::zeroed(places);
         let number = Reference::default().make(&mut lent, threshold);
-        assert_eq!(number, 0, "{}: making a store", Self::NAME);
+        assert_eq!(number, 0, "{}: making a store", self.name());
         lent
     }
 
     fn run(&self, lent: &mut Lent, list: &[u8], answers: &mut [u8]) -> (usize, usize) {
         let ran = Reference::default().run(lent, list, answers);
-        assert_eq!((ran.number, ran.letter), (0, 0), "{}: number and letter of a run", Self::NAME);
+        assert_eq!((ran.number, ran.letter), (0, 0), "{}: number and letter of a run", self.name());
         (ran.served, ran.written)
     }
 }

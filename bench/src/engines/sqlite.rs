@@ -183,10 +183,15 @@ impl Sqlite {
 
     /// The bytes in a column of the row, which stay until the next step.
     fn value(&self, statement: Handle, column: c_int) -> &[u8] {
-        // SAFETY: as said.
+        // SAFETY: as said. The library points nowhere where there are no bytes.
         unsafe {
             let data = (self.call.sqlite3_column_blob)(statement, column) as *const u8;
-            from_raw_parts(data, (self.call.sqlite3_column_bytes)(statement, column) as usize)
+            let length = (self.call.sqlite3_column_bytes)(statement, column) as usize;
+            if data.is_null() {
+                &[]
+            } else {
+                from_raw_parts(data, length)
+            }
         }
     }
 

@@ -5,9 +5,6 @@ pub const FEWEST_PLACES: usize = 16;
 
 pub const MOST_PLACES: usize = 4096;
 
-// A byte for each place that a store can have.
-pub type PerPlace = [u8; MOST_PLACES];
-
 // So many level lists.
 pub const LEVELS: usize = 4;
 

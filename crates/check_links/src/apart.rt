@@ -8,20 +8,19 @@ ghost use mathlib.Core.Bool.{true};
 ghost use lib.ListN.{length, drop};
 ghost use Rattle.table.specs.Table.{zeros};
 ghost use Rattle.ldc.specs.Lists.{all};
-ghost use Rattle.ldc.specs.Layout.{mostPlaces};
-ghost use Rattle.book.specs.Rows.{linksOn, tabled, Sized};
+ghost use Rattle.book.specs.Rows.{linksOn};
 ghost use Rattle.book.specs.Row.{theLink, linksIn};
-ghost use Rattle.check_walk.specs.Links.{Walkable, pairs, apartIn, crossApart, linksOver, levelsApart};
+ghost use Rattle.check_walk.specs.Links.{Readable, Walkable, pairs, apartIn, crossApart, linksOver, levelsApart};
 ghost use Rattle.check_walk.specs.Lists.{namesPlaces};
 use book::head::HeadWords;
 use book::limits::LEVELS;
-use book::limits::MOST_PLACES;
 use book::list;
 use book::row;
 use book::row::Link;
 use book::row::Row;
 use check_walk::named;
 use check_walk::span;
+use table_builder::place;
 
 // Do two links of one level name different places, or share no key?
 fn links_apart(g: Link, h: Link) -> bool
@@ -48,7 +47,7 @@ fn link_apart(g: Link, row: &Row, from: usize) -> bool
 }
 
 // Are the links of a row apart from each other?
-fn own_apart(row: &Row) -> bool
+pub fn own_apart(row: &Row) -> bool
     ensures { λ r. ⌜ r ≡ pairs apartIn (linksIn (now (row .entry))) ⌝ }
 {
     let n = row::links_held(row);
@@ -130,38 +129,46 @@ fn tables_apart(cards: &[Row], items: &[u16]) -> bool
 }
 
 // Are the links of a level apart?
-fn level_apart(area: &[u8], cards: &[Row], items: &[u16]) -> bool
-    requires { ⌜
-        Sized (now area) (now cards)
-        × ((namesPlaces (length (now cards)) (now items) ≡ true) × (tabled (now area) (now items) ≡ true))
-        ⌝ }
+fn level_apart(area: &[u8], cards: &[Row], ends: &[u64], items: &[u16]) -> bool
+    requires { ⌜ Readable (now area) (now cards) (now ends) (now items) ⌝ }
     ensures { λ r. ⌜ r ≡ pairs apartIn (linksOver (now (cards .entry)) (now (items .entry))) ⌝ }
 {
     if !owns_apart(cards, items) {
         return false;
     }
-    if span::rise(area, cards, items) {
+    if span::rise(area, cards, ends, items) {
         return true;
     }
     tables_apart(cards, items)
 }
 
-// Are the links of levels 1 to 3 apart?
-pub fn levels_apart(area: &[u8], cards: &[Row], lists: &[u16], head: &HeadWords) -> bool
-    requires { ⌜ Walkable (now area) (now cards) (now lists) (now head) ⌝ }
-    ensures { λ r. ⌜ r ≡ levelsApart 3 1 (now (cards .entry)) (now (lists .entry)) (now (head .entry)) (zeros mostPlaces) ⌝ }
+// Are the links of levels 1 to 3 apart? In `marks` there is room for a mark of each place.
+pub fn levels_apart(
+    area: &[u8],
+    cards: &[Row],
+    lists: &[u16],
+    head: &HeadWords,
+    ends: &[u64],
+    marks: &mut [u8],
+) -> bool
+    requires { ⌜
+        Walkable (now area) (now cards) (now lists) (now head) (now ends) × (length (now marks) ≡ length (now cards))
+        ⌝ }
+    ensures { λ r. ⌜
+        r ≡ levelsApart 3 1 (now (cards .entry)) (now (lists .entry)) (now (head .entry)) (zeros (length (now (cards .entry))))
+        ⌝ }
 {
-    let mut marks = [0u8; MOST_PLACES];
+    place::wipe(marks);
     let mut n = 1;
     while n < LEVELS {
         let items = list::items(lists, cards.len(), list::length(head, n), n);
-        if !named::items_unmarked(cards, items, &marks) {
+        if !named::items_unmarked(cards, items, marks) {
             return false;
         }
-        if !level_apart(area, cards, items) {
+        if !level_apart(area, cards, ends, items) {
             return false;
         }
-        named::mark_items(cards, items, &mut marks);
+        named::mark_items(cards, items, marks);
         n += 1;
     }
     true

@@ -1,3 +1,3 @@
 // The rule of the check that asks for links: E of document 01, "Sound store".
-mod apart;
+pub mod apart;
 pub mod rule_e;

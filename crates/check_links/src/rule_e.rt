@@ -72,7 +72,7 @@ fn links_good(area: &[u8], cards: &[Row], row: &Row) -> bool
 }
 
 // Has this row at most T links, all of them good?
-fn row_hangs(area: &[u8], cards: &[Row], threshold: u64, row: &Row) -> bool
+pub fn row_hangs(area: &[u8], cards: &[Row], threshold: u64, row: &Row) -> bool
     requires { ⌜ Sized (now area) (now cards) × (walkC (now area) (now cards) ≡ true) ⌝ }
     ensures { λ r. ⌜ r ≡ rowHangs (now (area .entry)) (now (cards .entry)) threshold (now (row .entry)) ⌝ }
 {
@@ -98,7 +98,7 @@ fn cards_hang(area: &[u8], cards: &[Row], threshold: u64) -> bool
 }
 
 // Have the tables of this list no links?
-fn all_bare(cards: &[Row], items: &[u16]) -> bool
+pub fn all_bare(cards: &[Row], items: &[u16]) -> bool
     requires { ⌜ namesPlaces (length (now cards)) (now items) ≡ true ⌝ }
     ensures { λ r. ⌜ r ≡ bare (now (cards .entry)) (now (items .entry)) ⌝ }
 {
@@ -113,9 +113,18 @@ fn all_bare(cards: &[Row], items: &[u16]) -> bool
     true
 }
 
-pub fn kept(area: &[u8], cards: &[Row], lists: &[u16], head: &HeadWords) -> bool
+// In `marks` there is room for a mark of each place.
+pub fn kept(
+    area: &[u8],
+    cards: &[Row],
+    lists: &[u16],
+    head: &HeadWords,
+    ends: &[u64],
+    marks: &mut [u8],
+) -> bool
     requires { ⌜
-        Walkable (now area) (now cards) (now lists) (now head) × (walkC (now area) (now cards) ≡ true)
+        (Walkable (now area) (now cards) (now lists) (now head) (now ends) × (walkC (now area) (now cards) ≡ true))
+        × (length (now marks) ≡ length (now cards))
         ⌝ }
     ensures { λ r. ⌜ r ≡ walkE (now (area .entry)) (now (cards .entry)) (now (lists .entry)) (now (head .entry)) ⌝ }
 {
@@ -126,5 +135,5 @@ pub fn kept(area: &[u8], cards: &[Row], lists: &[u16], head: &HeadWords) -> bool
     if !all_bare(cards, list::items(lists, cards.len(), len, 0)) {
         return false;
     }
-    apart::levels_apart(area, cards, lists, head)
+    apart::levels_apart(area, cards, lists, head, ends, marks)
 }

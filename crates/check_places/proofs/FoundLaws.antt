@@ -1,4 +1,5 @@
--- What rules B and C, once found kept, say of the lists: each fits its part, its items name places, and these hold tables.
+-- What rules B and C, once found kept, say of the lists: each fits its part, its items name places, and these hold tables,
+-- whose greatest keys are noted.
 use Prim.Native.Nat.{ℕ, zero, suc, _+_, _*_, _≤_, _<_, min}
 use mathlib.Core.Path.{_≡_, refl, sym, _∙_}
 use mathlib.Core.Bool.{true, false, cond, _||_, true≢false}
@@ -7,7 +8,8 @@ use native.Mathlib.Omega.{arith}
 use borrow.Author.Tests.{leb-true, ltb-true, eqb-true, eq-eqb}
 use lib.Dec.{leb, ltb, eqb}
 use lib.ListN.{length, getD, drop-of-length-le}
-use Rattle.table.specs.Table.{zeros, isTable, allZero, placeOf}
+use Rattle.table.specs.Table.{entries, zeros, isTable, allZero, placeOf}
+use Rattle.table.specs.Search.{greatestKey}
 use Rattle.table.proofs.Tests.{and-parts, cases}
 use Rattle.table.proofs.Zeros.{length-zeros}
 use Rattle.ldc.specs.Lists.{howMany}
@@ -15,12 +17,13 @@ use Rattle.ldc.specs.Store.{Card, free, live, frozen, isFree, isLive}
 use Rattle.ldc.specs.Lent.{rowGood}
 use Rattle.ldc.proofs.Basics.ListLaws.{all-at, all-of, below-at, howMany-mem}
 use Rattle.ldc.proofs.Basics.Counts.{howMany-append}
-use Rattle.ldc.specs.Layout.{cardOf, linkCount, rowRest, itemsIn, mostPlaces, linkLimit, rowSize, linkStart, lengthIn, levelCount}
+use Rattle.ldc.specs.Layout.{cardOf, linkCount, rowRest, itemsIn, linkLimit, rowSize, linkStart, lengthIn, levelCount}
 use Rattle.book.specs.Rows.{tabled, Sized}
 use Rattle.check_walk.specs.Links.{Walkable}
 use Rattle.check_walk.specs.Lists.{namesPlaces}
+use Rattle.check_walk.specs.Spans.{lastsNoted}
 use Rattle.check_places.specs.Lists.{listed, tallied, listGood, listsGood, placeGood, placesGood, walkB}
-use Rattle.check_places.specs.Links.{placeTabled, walkC}
+use Rattle.check_places.specs.Links.{placeTabled, walkC, Noted}
 use Rattle.check_places.proofs.Tally.{counted}
 
 module _ (P : ℕ) (lists head : List ℕ) (g : listsGood P lists head ≡ true) (n : ℕ) (h : n < levelCount) where
@@ -62,9 +65,9 @@ zero-count (suc n) zero = refl
 zero-count (suc n) (suc p) = zero-count n p
 
 -- A count of no list is 0, of all lists how often they name the place, 2 standing for any more.
-pub counted-all : (items : List ℕ) (p : ℕ) → p < mostPlaces → getD (tallied (zeros mostPlaces) items) p 0 ≡ min 2 (howMany (eqb p) items)
-counted-all items p h =
-    let r = counted (zeros mostPlaces) items p 0 (rw (length-zeros mostPlaces) h) (zero-count mostPlaces p) in
+pub counted-all : (P : ℕ) (items : List ℕ) (p : ℕ) → p < P → getD (tallied (zeros P) items) p 0 ≡ min 2 (howMany (eqb p) items)
+counted-all P items p h =
+    let r = counted (zeros P) items p 0 (rw (length-zeros P) h) (zero-count P p) in
     let e : 0 + howMany (eqb p) items ≡ howMany (eqb p) items = omega arith in
     rw e at r
 
@@ -80,17 +83,17 @@ module _ (area : List ℕ) (cards : List (List ℕ)) (lists head : List ℕ) (z 
       let near : p < length cards = ltb-true _ _ (all-at (λ i. ltb i (length cards)) (itemsIn (length cards) lists head n)
       (list-below (length cards) lists head good-lists n h) m) in
       let items = listed levelCount 0 (length cards) lists head in
-      let good = below-at (length cards) (placeGood cards (tallied (zeros mostPlaces) items))
+      let good = below-at (length cards) (placeGood cards (tallied (zeros (length cards)) items))
       (and-parts (listsGood (length cards) lists head) _ kept-b .1) p near in
-      let times : getD (tallied (zeros mostPlaces) items) p 0 ≡ cond (isLive (cardOf (getD cards p []))) 1 0 =
+      let times : getD (tallied (zeros (length cards)) items) p 0 ≡ cond (isLive (cardOf (getD cards p []))) 1 0 =
       eqb-true _ _ (and-parts (rowGood (getD cards p [])) _ good .1) in
-      let count = counted-all items p (omega (arith, z .most)) in
+      let count = counted-all (length cards) items p near in
       let some = howMany-mem (eqb p) (itemsIn (length cards) lists head n) m (eq-eqb p p refl) in
       let more : howMany (eqb p) (itemsIn (length cards) lists head n) ≤ howMany (eqb p) items =
       let z : 0 + n ≡ n = omega arith in rw z at (listed-part levelCount 0 (length cards) lists head p n h) in (
         near,
         cases (isLive (cardOf (getD cards p []))) (λ q. q)
-            (λ q. let none : getD (tallied (zeros mostPlaces) items) p 0 ≡ 0 = times ∙ rw q in absurd (omega arith)),
+            (λ q. let none : getD (tallied (zeros (length cards)) items) p 0 ≡ 0 = times ∙ rw q in absurd (omega arith)),
       )
 
   -- So it is a table.
@@ -102,14 +105,25 @@ module _ (area : List ℕ) (cards : List (List ℕ)) (lists head : List ℕ) (z 
       below-at (length cards) (placeTabled area cards) kept-c p (l .0) in
       rw (live-not-free _ (l .1)) at good)
 
+  -- And its greatest key is noted.
+  list-noted : (ends : List ℕ) → Noted area cards ends → (n : ℕ) → n < levelCount → lastsNoted area ends (itemsIn (length cards) lists head n) ≡ true
+  unfolding lastsNoted
+  list-noted ends noted n h = all-of (λ p. eqb (getD ends p 0) (greatestKey (entries (placeOf area p)))) (itemsIn (length cards) lists head n)
+      (λ p m. let l = listed-live n p h m in eq-eqb _ _ (noted .last p (l .0) (live-not-free (cardOf (getD cards p [])) (l .1))))
+
   -- So the lists can be walked.
-  pub walkable : length lists ≡ levelCount * length cards → Walkable area cards lists head
-  walkable long = record {
+  pub walkable : (ends : List ℕ) → Noted area cards ends → length lists ≡ levelCount * length cards → Walkable area cards lists head ends
+  walkable ends noted long = record {
     sized = z;
     long = long;
     fits = λ n h. list-fits (length cards) lists head good-lists n h;
-    names = λ n h. list-below (length cards) lists head good-lists n h;
-    tables = list-tabled;
+    reads = λ n h. record {
+      sized = z;
+      room = noted .room;
+      names = list-below (length cards) lists head good-lists n h;
+      tables = list-tabled n h;
+      lasts = list-noted ends noted n h;
+    };
   }
 
 -- A row that says more links than it has room for has no rest.

@@ -5,8 +5,8 @@ use mathlib.Core.Bool.{Bool, true, false, cond, not, _&&_, _||_, Bool·beq, and-
 use mathlib.Core.List.{List, [], _∷_, _++_, map, append-nil, List·Memᴰ, List·Memᴰ·head, List·Memᴰ·tail, List·Memᴰ·not-nil, List·Memᴰ·append-cases}
 use mathlib.Core.Logic.{⊎-elim}
 use native.Mathlib.Omega.{arith}
-use borrow.Author.Tests.{lt-ltb, eq-eqb, ne-eqb, eqb-true, eqb-false}
-use lib.Dec.{ltb, eqb}
+use borrow.Author.Tests.{eq-eqb, ne-eqb, eqb-true, eqb-false}
+use lib.Dec.{eqb}
 use lib.ListN.{length, getD, set, length-set}
 use lib.Seq.{getD-set-same, getD-set-other}
 use Rattle.table.specs.Table.{zeros}
@@ -16,10 +16,10 @@ use Rattle.ldc.specs.Lists.{all, any, flat}
 use Rattle.ldc.specs.Store.{Link, linksOf}
 use Rattle.ldc.specs.Rules.{Hung, apart, allApart}
 use Rattle.ldc.proofs.Basics.ListLaws.{all-of}
-use Rattle.ldc.specs.Layout.{cardOf, itemsIn, mostPlaces}
+use Rattle.ldc.specs.Layout.{cardOf, itemsIn}
 use Rattle.book.specs.Row.{linksIn}
 use Rattle.check_walk.specs.Links.{pairs, apartIn, linksOver, unmarked, levelsApart, linksMarked}
-use Rattle.check_walk.proofs.LinkLaws.{all-append}
+use Rattle.check_walk.proofs.LinkLaws.{all-append, long-marks}
 use Rattle.check_walk.proofs.ApartLaws.{all-split, pairs-append}
 use Rattle.check_places.proofs.FoundLaws.{zero-count}
 use Rattle.check_places.proofs.WalkLaws.{all-same, all-swap}
@@ -27,33 +27,22 @@ use Rattle.check_places.proofs.WalkLaws.{all-same, all-swap}
 -- ---- what a mark says
 
 -- A place's mark is 1 if a link names it, else what it was.
-pub mark-value : (t : List ℕ) (ls : List Link) (p : ℕ) → length t ≡ mostPlaces → p < mostPlaces
+mark-value : (t : List ℕ) (ls : List Link) (p : ℕ) → p < length t
     → getD (linksMarked t ls) p 0 ≡ cond (any (λ l. eqb (l .place) p) ls) 1 (getD t p 0)
 unfolding linksMarked
-mark-value t [] p h hp = refl
-mark-value t (l ∷ ls) p h hp =
+mark-value t [] p h = refl
+mark-value t (l ∷ ls) p h =
     cases (eqb (l .place) p)
     (λ q. let same : l .place ≡ p = eqb-true _ _ q in
     let t′ : List ℕ = set t p 1 in
-    let here : getD t′ p 0 ≡ 1 = getD-set-same t p 1 0 (omega arith) in
-    rw (q, same, lt-ltb p mostPlaces hp)
-    (mark-value t′ ls p (rw length-set h) hp ∙ rw here (one (any (λ k. eqb (k .place) p) ls))))
-    (λ q. cases (ltb (l .place) mostPlaces)
-    (λ r. rw (q, r) (mark-value (set t (l .place) 1) ls p (rw length-set h) hp
+    let here : getD t′ p 0 ≡ 1 = getD-set-same t p 1 0 h in
+    rw (q, same) (mark-value t′ ls p (rw length-set h) ∙ rw here (one (any (λ k. eqb (k .place) p) ls))))
+    (λ q. rw q (mark-value (set t (l .place) 1) ls p (rw length-set h)
     ∙ rw (getD-set-other t (l .place) p 1 0 (λ e. eqb-false _ _ q (sym e)))))
-    (λ r. rw (q, r) (mark-value t ls p h hp)))
   where
     one : (b : Bool) → _≡_ {A = ℕ} (cond b 1 1) 1
     one true = refl
     one false = refl
-
-pub long-marks : (t : List ℕ) (ls : List Link) → length (linksMarked t ls) ≡ length t
-unfolding linksMarked
-long-marks t [] = refl
-long-marks t (l ∷ ls) =
-    cases (ltb (l .place) mostPlaces)
-    (λ r. rw r (long-marks (set t (l .place) 1) ls ∙ length-set t (l .place) 1))
-    (λ r. rw r (long-marks t ls))
 
 -- ---- rule F
 
@@ -73,11 +62,11 @@ one-zero true false = refl
 one-zero false true = refl
 one-zero false false = refl
 
-pub mark-named : (cards : List (List ℕ)) (p : ℕ) (b : Bool) → p < mostPlaces
-    → eqb (getD (linksMarked (zeros mostPlaces) (flat (map linksIn cards))) p 0) (cond b 1 0)
+pub mark-named : (P : ℕ) (cards : List (List ℕ)) (p : ℕ) (b : Bool) → p < P
+    → eqb (getD (linksMarked (zeros P) (flat (map linksIn cards))) p 0) (cond b 1 0)
     ≡ Bool·beq b (any (λ c. any (λ l. eqb (l .place) p) (linksOf c)) (map cardOf cards))
-mark-named cards p b h =
-    rw (mark-value (zeros mostPlaces) (flat (map linksIn cards)) p (length-zeros mostPlaces) h, zero-count mostPlaces p, any-rows (λ l. eqb (l .place) p) cards)
+mark-named P cards p b h =
+    rw (mark-value (zeros P) (flat (map linksIn cards)) p (rw (length-zeros P) h), zero-count P p, any-rows (λ l. eqb (l .place) p) cards)
     (one-zero (any (λ c. any (λ l. eqb (l .place) p) (linksOf c)) (map cardOf cards)) b)
 
 -- ---- levels
@@ -117,27 +106,27 @@ not-any test [] = refl
 not-any test (x ∷ xs) = cases (test x) (λ q. rw q) (λ q. rw q (not-any test xs))
 
 -- What links leave unmarked: what was, and they don't name.
-left-unmarked : (t : List ℕ) (ls : List Link) (k : Link) → length t ≡ mostPlaces → k .place < mostPlaces
+left-unmarked : (t : List ℕ) (ls : List Link) (k : Link) → k .place < length t
     → unmarked (linksMarked t ls) k ≡ (unmarked t k && all (λ l. not (eqb (l .place) (k .place))) ls)
 unfolding unmarked
-left-unmarked t ls k h hp =
-    rw (lt-ltb (k .place) mostPlaces hp, mark-value t ls (k .place) h hp, ← not-any (λ l. eqb (l .place) (k .place)) ls)
+left-unmarked t ls k h =
+    rw (mark-value t ls (k .place) h, ← not-any (λ l. eqb (l .place) (k .place)) ls)
     (split (any (λ l. eqb (l .place) (k .place)) ls) (getD t (k .place) 0))
   where
     split : (b : Bool) (x : ℕ) → eqb (cond b 1 x) 0 ≡ (eqb x 0 && not b)
     split true x = sym (mathlib.Core.Bool.and-false (eqb x 0))
     split false x = sym (and-true (eqb x 0))
 
--- Links of the levels that name places.
-abbrev Named : (n from : ℕ) → (ℕ → List Link) → Type 0
-Named k from ls = (n : ℕ) (l : Link) → from ≤ n → n < from + k → List·Memᴰ l (ls n) → l .place < mostPlaces
+-- Links of the levels that name places, of which there are P.
+abbrev Named : (P n from : ℕ) → (ℕ → List Link) → Type 0
+Named P k from ls = (n : ℕ) (l : Link) → from ≤ n → n < from + k → List·Memᴰ l (ls n) → l .place < P
 
-hung-mem : (ls : ℕ → List Link) (k from : ℕ) → Named k from ls → (h : Hung) → List·Memᴰ h (hungs k from ls) → (from ≤ h .on) × (h .link .place < mostPlaces)
-hung-mem ls zero from d h m = absurd (List·Memᴰ·not-nil m)
-hung-mem ls (suc k) from d h m =
+hung-mem : (P : ℕ) (ls : ℕ → List Link) (k from : ℕ) → Named P k from ls → (h : Hung) → List·Memᴰ h (hungs k from ls) → (from ≤ h .on) × (h .link .place < P)
+hung-mem P ls zero from d h m = absurd (List·Memᴰ·not-nil m)
+hung-mem P ls (suc k) from d h m =
     ⊎-elim
     (λ a. let r = map-mem (ls from) a in (omega (arith, ap (λ x. x .on) (r .2)), rw (ap (λ x. x .link) (r .2)) (d from (r .0) (omega arith) (omega arith) (r .1))))
-    (λ b. let r = hung-mem ls k (suc from) (λ n l lo hi x. d n l (omega arith) (omega arith) x) h b in (omega (arith, r .0), r .1))
+    (λ b. let r = hung-mem P ls k (suc from) (λ n l lo hi x. d n l (omega arith) (omega arith) x) h b in (omega (arith, r .0), r .1))
     (List·Memᴰ·append-cases (map (hung from) (ls from)) m)
   where
     map-mem : (xs : List Link) → List·Memᴰ h (map (hung from) xs) → (l : Link) × List·Memᴰ l xs × (h ≡ hung from l)
@@ -156,19 +145,19 @@ module _ (cards : List (List ℕ)) (lists head : List ℕ) where
   abbrev pub levelLinks : ℕ → List Link
   levelLinks n = linksOver cards (itemsIn (length cards) lists head n)
 
-  levels-hung : (k from : ℕ) (t : List ℕ) → length t ≡ mostPlaces → Named k from levelLinks
+  levels-hung : (k from : ℕ) (t : List ℕ) → Named (length t) k from levelLinks
       → levelsApart k from cards lists head t
       ≡ (all (λ h. unmarked t (h .link)) (hungs k from levelLinks) && pairs apart (hungs k from levelLinks))
   unfolding levelsApart
-  levels-hung zero from t z d = refl
-  levels-hung (suc k) from t z d =
+  levels-hung zero from t d = refl
+  levels-hung (suc k) from t d =
       let ls : List Link = levelLinks from in
       let hs : List Hung = hungs k (suc from) levelLinks in
-      let inner = levels-hung k (suc from) (linksMarked t ls) (long-marks t ls ∙ z) (λ n l lo hi x. d n l (omega arith) (omega arith) x) in
+      let inner = levels-hung k (suc from) (linksMarked t ls) (λ n l lo hi x. rw (long-marks t ls) (d n l (omega arith) (omega arith) x)) in
       let split : all (λ h. unmarked (linksMarked t ls) (h .link)) hs ≡ (all (λ h. unmarked t (h .link)) hs && all (λ h. all (λ l. apart (hung from l) h) ls) hs) =
       all-same (λ h. unmarked (linksMarked t ls) (h .link)) (λ h. unmarked t (h .link) && all (λ l. apart (hung from l) h) ls) hs
-      (λ h m. let r = hung-mem levelLinks k (suc from) (λ n l lo hi x. d n l (omega arith) (omega arith) x) h m in
-      left-unmarked t ls (h .link) z (r .1)
+      (λ h m. let r = hung-mem (length t) levelLinks k (suc from) (λ n l lo hi x. d n l (omega arith) (omega arith) x) h m in
+      left-unmarked t ls (h .link) (r .1)
       ∙ rw (all-same (λ l. apart (hung from l) h) (λ l. not (eqb (l .place) (h .link .place))) ls (λ l y. two-levels from l h (λ e. omega (arith, r .0)))))
       ∙ all-split (λ h. unmarked t (h .link) && all (λ l. apart (hung from l) h) ls) (λ h. unmarked t (h .link)) (λ h. all (λ l. apart (hung from l) h) ls) hs (λ h. refl) in
       let swap : all (λ h. all (λ l. apart (hung from l) h) ls) hs ≡ all (λ x. all (apart x) hs) (map (hung from) ls) =
@@ -185,14 +174,13 @@ module _ (cards : List (List ℕ)) (lists head : List ℕ) where
       (level-shuffle (all (unmarked t) ls) (pairs apartIn ls) (all (λ h. unmarked t (h .link)) hs) (all (λ x. all (apart x) hs) (map (hung from) ls)) (pairs apart hs))
 
   -- With no marks at first: the links of levels 1 to 3 are apart.
-  pub levels-all : Named 3 1 levelLinks
-      → levelsApart 3 1 cards lists head (zeros mostPlaces)
+  pub levels-all : (P : ℕ) → Named P 3 1 levelLinks
+      → levelsApart 3 1 cards lists head (zeros P)
       ≡ allApart (map (hung 1) (levelLinks 1) ++ (map (hung 2) (levelLinks 2) ++ map (hung 3) (levelLinks 3)))
   unfolding unmarked
-  levels-all d =
-      let blank : all (λ h. unmarked (zeros mostPlaces) (h .link)) (hungs 3 1 levelLinks) ≡ true =
-      all-of (λ h. unmarked (zeros mostPlaces) (h .link)) (hungs 3 1 levelLinks)
-      (λ h m. rw (zero-count mostPlaces (h .link .place)) (mathlib.Core.Bool.or-true (not (ltb (h .link .place) mostPlaces)))) in
-      levels-hung 3 1 (zeros mostPlaces) (length-zeros mostPlaces) d
+  levels-all P d =
+      let blank : all (λ h. unmarked (zeros P) (h .link)) (hungs 3 1 levelLinks) ≡ true =
+      all-of (λ h. unmarked (zeros P) (h .link)) (hungs 3 1 levelLinks) (λ h m. rw (zero-count P (h .link .place))) in
+      levels-hung 3 1 (zeros P) (λ n l lo hi x. rw (length-zeros P) (d n l lo hi x))
       ∙ rw (blank, append-nil (map (hung 3) (levelLinks 3)))
       (sym (allApart-pairs (map (hung 1) (levelLinks 1) ++ (map (hung 2) (levelLinks 2) ++ map (hung 3) (levelLinks 3)))))

@@ -19,7 +19,7 @@ use Rattle.ldc.specs.Lent.{Lent, placesIn, sizesGood, listLength, listPart, lev
 use Rattle.ldc.proofs.Basics.ListLaws.{all-at, mem-getD}
 use Rattle.ldc.proofs.Lent.Shows.{sizes}
 use Rattle.ldc.proofs.Stores.SoundRules.{good-frozen}
-use Rattle.ldc.specs.Layout.{cardOf, linkCount, itemsIn, mostPlaces, lengthIn, levelCount, thresholdIn, cursorIn}
+use Rattle.ldc.specs.Layout.{cardOf, linkCount, itemsIn, lengthIn, levelCount, thresholdIn, cursorIn}
 use Rattle.book.specs.Rows.{linksOn, Sized, shownBy}
 use Rattle.book.specs.Row.{linksIn}
 use Rattle.check_walk.specs.Links.{linksOver, levelsApart, Walkable, linksMarked}
@@ -27,7 +27,7 @@ use Rattle.check_walk.proofs.ShownLaws.{card-shown, links-shown, bytes-shown, c
 use Rattle.check_walk.proofs.ApartLaws.{all-split}
 use Rattle.check_walk.specs.Lists.{namesPlaces}
 use Rattle.check_places.specs.Lists.{listed, tallied, listGood, listsGood, placeGood, placesGood, walkB}
-use Rattle.check_places.specs.Links.{placeTabled, walkC, rowHangs, cardsHang, bare, walkE, walkF, marksFit, markFits}
+use Rattle.check_places.specs.Links.{placeTabled, walkC, Noted, rowHangs, cardsHang, bare, walkE, walkF, marksFit, markFits}
 use Rattle.check_places.specs.Parts.{levelRises, listRestZero, walkG}
 use Rattle.check_places.proofs.FoundLaws.{counted-all, walkable}
 use Rattle.check_places.proofs.WalkLaws.{from-split, below-same, rows-all, all-same, card-seen, links-seen, bytes-seen, good-seen, rise-seen, size-seen, level-items, all-listed}
@@ -130,19 +130,19 @@ module _ (m : Lent) (good : sizesGood m ≡ true) where
 
   -- Each place by its count, and by how often it is listed.
   times : lengths ≡ true → (p : ℕ) → p < length (m .cards)
-      → eqb (getD (tallied (zeros mostPlaces) (listed levelCount 0 (length (m .cards)) (m .lists) (m .head))) p 0) (cond (isLive (cardOf (getD (m .cards) p []))) 1 0)
+      → eqb (getD (tallied (zeros (length (m .cards))) (listed levelCount 0 (length (m .cards)) (m .lists) (m .head))) p 0) (cond (isLive (cardOf (getD (m .cards) p []))) 1 0)
       ≡ eqb (timesListed (storeOf m) p) (cond (isLive (card (storeOf m) p)) 1 0)
   unfolding timesListed
   times h p hp =
-      rw (levels-listed h, card-seen m p, card-shown (m .area) (m .cards) p, counted-all (listed levelCount 0 (length (m .cards)) (m .lists) (m .head)) p (omega (arith, sized .most)))
+      rw (levels-listed h, card-seen m p, card-shown (m .area) (m .cards) p, counted-all (length (m .cards)) (listed levelCount 0 (length (m .cards)) (m .lists) (m .head)) p hp)
       (capped (howMany (eqb p) (listed levelCount 0 (length (m .cards)) (m .lists) (m .head))) (isLive (cardOf (getD (m .cards) p []))))
 
   places-parts : lengths ≡ true
-      → placesGood (m .cards) (tallied (zeros mostPlaces) (listed levelCount 0 (length (m .cards)) (m .lists) (m .head)))
+      → placesGood (m .cards) (tallied (zeros (length (m .cards))) (listed levelCount 0 (length (m .cards)) (m .lists) (m .head)))
       ≡ (all rowGood (m .cards) && allFrom (size (storeOf m)) 0 (λ p. eqb (timesListed (storeOf m) p) (cond (isLive (card (storeOf m) p)) 1 0)))
   unfolding placesGood placeGood
   places-parts h =
-      let counts : List ℕ = tallied (zeros mostPlaces) (listed levelCount 0 (length (m .cards)) (m .lists) (m .head)) in
+      let counts : List ℕ = tallied (zeros (length (m .cards))) (listed levelCount 0 (length (m .cards)) (m .lists) (m .head)) in
       from-split (placeGood (m .cards) counts) (λ p. rowGood (getD (m .cards) p []))
       (λ p. eqb (getD counts p 0) (cond (isLive (cardOf (getD (m .cards) p []))) 1 0)) (length (m .cards)) 0 (λ p. refl)
       ∙ rw (
@@ -181,16 +181,16 @@ module _ (m : Lent) (good : sizesGood m ≡ true) where
   rule-F =
       rw (size-seen m)
       (below-same (λ p. Bool·beq (isFrozen (card (storeOf m) p)) (named (storeOf m) p))
-      (markFits (m .cards) (linksMarked (zeros mostPlaces) (flat (map linksIn (m .cards))))) (length (m .cards))
+      (markFits (m .cards) (linksMarked (zeros (length (m .cards))) (flat (map linksIn (m .cards))))) (length (m .cards))
       (λ p h. unfold markFits storeOf in
       rw (card-seen m p, card-shown (m .area) (m .cards) p)
-      (sym (mark-named (m .cards) p (isFrozen (cardOf (getD (m .cards) p []))) (omega (arith, sized .most))))))
+      (sym (mark-named (length (m .cards)) (m .cards) p (isFrozen (cardOf (getD (m .cards) p []))) h))))
 
   -- ---- where B and C are kept
 
   module _ (b : keptB m ≡ true) (c : ruleC (storeOf m) ≡ true) where
-    pub found : Walkable (m .area) (m .cards) (m .lists) (m .head)
-    found = walkable (m .area) (m .cards) (m .lists) (m .head) sized (sym rule-B ∙ b) (sym rule-C ∙ c) long-lists
+    pub found : (ends : List ℕ) → Noted (m .area) (m .cards) ends → Walkable (m .area) (m .cards) (m .lists) (m .head) ends
+    found ends noted = walkable (m .area) (m .cards) (m .lists) (m .head) sized (sym rule-B ∙ b) (sym rule-C ∙ c) ends noted long-lists
 
     pub kept-C : walkC (m .area) (m .cards) ≡ true
     kept-C = sym rule-C ∙ c
@@ -232,12 +232,11 @@ module _ (m : Lent) (good : sizesGood m ≡ true) where
 
     -- Where links are good, those of all levels are apart if `levels_apart` says so.
     apart-levels : cardsHang (m .area) (m .cards) (thresholdIn (m .head)) ≡ true
-        → allApart (hungOn (storeOf m) 1 ++ (hungOn (storeOf m) 2 ++ hungOn (storeOf m) 3)) ≡ levelsApart 3 1 (m .cards) (m .lists) (m .head) (zeros mostPlaces)
+        → allApart (hungOn (storeOf m) 1 ++ (hungOn (storeOf m) 2 ++ hungOn (storeOf m) 3)) ≡ levelsApart 3 1 (m .cards) (m .lists) (m .head) (zeros (length (m .cards)))
     apart-levels h =
         rw (hung-level 1 (omega arith), hung-level 2 (omega arith), hung-level 3 (omega arith))
-        (sym (levels-all (m .cards) (m .lists) (m .head)
-        (λ n l lo hi x. let near = good-place (m .area) (m .cards) (thresholdIn (m .head)) h (itemsIn (length (m .cards)) (m .lists) (m .head) n) l x in
-        omega (arith, sized .most))))
+        (sym (levels-all (m .cards) (m .lists) (m .head) (length (m .cards))
+        (λ n l lo hi x. good-place (m .area) (m .cards) (thresholdIn (m .head)) h (itemsIn (length (m .cards)) (m .lists) (m .head) n) l x)))
 
     pub rule-E : (countsGood m && ruleE (storeOf m)) ≡ walkE (m .area) (m .cards) (m .lists) (m .head)
     unfolding ruleE walkE

@@ -1,14 +1,16 @@
 -- Rule C, and what rules E and F say of links, as they are walked.
-use Prim.Native.Nat.{ℕ}
+use Prim.Native.Nat.{ℕ, _≤_, _<_}
+use mathlib.Core.Path.{_≡_}
 use mathlib.Core.List.{List, [], map}
-use mathlib.Core.Bool.{Bool, cond, _&&_, _||_}
+use mathlib.Core.Bool.{Bool, false, cond, _&&_, _||_}
 use lib.Dec.{leb, eqb}
 use lib.ListN.{length, getD}
-use Rattle.table.specs.Table.{isTable, zeros, placeOf}
+use Rattle.table.specs.Table.{entries, isTable, zeros, placeOf}
+use Rattle.table.specs.Search.{greatestKey}
 use Rattle.ldc.specs.Lists.{all, flat, isEmpty, allFrom}
 use Rattle.ldc.specs.Store.{isFree, isFrozen}
 use Rattle.ldc.specs.Rules.{linkGood}
-use Rattle.ldc.specs.Layout.{linkCount, cardOf, itemsIn, mostPlaces, thresholdIn}
+use Rattle.ldc.specs.Layout.{linkCount, cardOf, itemsIn, thresholdIn}
 use Rattle.book.specs.Rows.{linksOn, shownBy}
 use Rattle.book.specs.Row.{linksIn}
 use Rattle.check_walk.specs.Links.{levelsApart, linksMarked}
@@ -19,6 +21,11 @@ placeTabled area cards p = isFree (cardOf (getD cards p [])) || isTable (placeOf
 
 unfoldable pub walkC : (area : List ℕ) → (cards : List (List ℕ)) → Bool
 walkC area cards = allFrom (length cards) 0 (placeTabled area cards)
+
+-- The greatest key of each table is noted, at the number of its place.
+pub record Noted (area : List ℕ) (cards : List (List ℕ)) (ends : List ℕ) : Type 0 where
+  pub room : length cards ≤ length ends
+  pub last : (p : ℕ) → p < length cards → isFree (cardOf (getD cards p [])) ≡ false → getD ends p 0 ≡ greatestKey (entries (placeOf area p))
 
 -- ---- rule E: each link by itself
 
@@ -37,7 +44,7 @@ bare cards items = all (λ p. isEmpty (linksOn cards p)) items
 unfoldable pub walkE : (area : List ℕ) → (cards : List (List ℕ)) → (lists head : List ℕ) → Bool
 walkE area cards lists head =
     cardsHang area cards (thresholdIn head)
-    && (bare cards (itemsIn (length cards) lists head 0) && levelsApart 3 1 cards lists head (zeros mostPlaces))
+    && (bare cards (itemsIn (length cards) lists head 0) && levelsApart 3 1 cards lists head (zeros (length cards)))
 
 -- ---- rule F
 
@@ -49,4 +56,4 @@ unfoldable pub marksFit : (cards : List (List ℕ)) → (marks : List ℕ) → B
 marksFit cards marks = allFrom (length cards) 0 (markFits cards marks)
 
 unfoldable pub walkF : (cards : List (List ℕ)) → Bool
-walkF cards = marksFit cards (linksMarked (zeros mostPlaces) (flat (map linksIn cards)))
+walkF cards = marksFit cards (linksMarked (zeros (length cards)) (flat (map linksIn cards)))

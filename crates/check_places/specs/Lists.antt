@@ -8,7 +8,7 @@ use Rattle.table.specs.Table.{zeros}
 use Rattle.ldc.specs.Lists.{allFrom}
 use Rattle.ldc.specs.Store.{isLive}
 use Rattle.ldc.specs.Lent.{rowGood}
-use Rattle.ldc.specs.Layout.{cardOf, itemsIn, mostPlaces, levelCount, lengthIn}
+use Rattle.ldc.specs.Layout.{cardOf, itemsIn, levelCount, lengthIn}
 use Rattle.check_walk.specs.Lists.{namesPlaces}
 
 -- Those of n levels from one on.
@@ -43,4 +43,4 @@ placesGood cards counts = allFrom (length cards) 0 (placeGood cards counts)
 -- Rule B.
 unfoldable pub walkB : (cards : List (List ℕ)) → (lists head : List ℕ) → Bool
 walkB cards lists head =
-    listsGood (length cards) lists head && placesGood cards (tallied (zeros mostPlaces) (listed levelCount 0 (length cards) lists head))
+    listsGood (length cards) lists head && placesGood cards (tallied (zeros (length cards)) (listed levelCount 0 (length cards) lists head))

@@ -6,16 +6,15 @@ ghost use lib.Dec.{eqb};
 ghost use lib.ListN.{length};
 ghost use Rattle.ldc.specs.Store.{isLive};
 ghost use Rattle.ldc.specs.Lent.{rowGood};
-ghost use Rattle.ldc.specs.Layout.{cardOf, mostPlaces, levelCount};
+ghost use Rattle.ldc.specs.Layout.{cardOf, levelCount};
 ghost use Rattle.check_walk.specs.Lists.{namesPlaces};
 ghost use Rattle.check_places.specs.Lists.{bumped, tallied, listed, listsGood, placesGood, walkB};
 use book::head::HeadWords;
 use book::limits::LEVELS;
-use book::limits::MOST_PLACES;
-use book::limits::PerPlace;
 use book::list;
 use book::row;
 use book::row::Row;
+use table_builder::place;
 
 // One more, up to 2, which stands for any more.
 fn bump(k: u8) -> u8
@@ -33,8 +32,8 @@ fn row_good(row: &Row) -> bool
 }
 
 // Counts how often each place stands in a list; stops at an item that names no place.
-fn tally(items: &[u16], places: usize, counts: &mut PerPlace) -> bool
-    requires { ⌜ places ≤ mostPlaces ⌝ }
+fn tally(items: &[u16], places: usize, counts: &mut [u8]) -> bool
+    requires { ⌜ places ≤ length (now counts) ⌝ }
     ensures { λ r. ⌜
         (r ≡ namesPlaces places (now (items .entry)))
         × (r ≡ true → now (counts .exit) ≡ tallied (now (counts .entry)) (now (items .entry)))
@@ -53,8 +52,8 @@ fn tally(items: &[u16], places: usize, counts: &mut PerPlace) -> bool
 }
 
 // The same for all four lists; stops at one that is too long.
-fn tally_all(lists: &[u16], head: &HeadWords, places: usize, counts: &mut PerPlace) -> bool
-    requires { ⌜ (places ≤ mostPlaces) × (length (now lists) ≡ levelCount * places) ⌝ }
+fn tally_all(lists: &[u16], head: &HeadWords, places: usize, counts: &mut [u8]) -> bool
+    requires { ⌜ (places ≤ length (now counts)) × (length (now lists) ≡ levelCount * places) ⌝ }
     ensures { λ r. ⌜
         (r ≡ listsGood places (now (lists .entry)) (now (head .entry)))
         × (r ≡ true → now (counts .exit) ≡ tallied (now (counts .entry)) (listed levelCount 0 places (now (lists .entry)) (now (head .entry))))
@@ -85,8 +84,8 @@ fn place_good(row: &Row, times: u8) -> bool
 }
 
 // The same of all rows.
-fn places_good(cards: &[Row], counts: &PerPlace) -> bool
-    requires { ⌜ length (now cards) ≤ mostPlaces ⌝ }
+fn places_good(cards: &[Row], counts: &[u8]) -> bool
+    requires { ⌜ length (now cards) ≤ length (now counts) ⌝ }
     ensures { λ r. ⌜ r ≡ placesGood (now (cards .entry)) (now (counts .entry)) ⌝ }
 {
     let mut p = 0;
@@ -99,13 +98,14 @@ fn places_good(cards: &[Row], counts: &PerPlace) -> bool
     true
 }
 
-pub fn kept(cards: &[Row], lists: &[u16], head: &HeadWords) -> bool
-    requires { ⌜ (length (now cards) ≤ mostPlaces) × (length (now lists) ≡ levelCount * length (now cards)) ⌝ }
+// In `counts` there is room for a count of each place.
+pub fn kept(cards: &[Row], lists: &[u16], head: &HeadWords, counts: &mut [u8]) -> bool
+    requires { ⌜ (length (now counts) ≡ length (now cards)) × (length (now lists) ≡ levelCount * length (now cards)) ⌝ }
     ensures { λ r. ⌜ r ≡ walkB (now (cards .entry)) (now (lists .entry)) (now (head .entry)) ⌝ }
 {
-    let mut counts = [0u8; MOST_PLACES];
-    if tally_all(lists, head, cards.len(), &mut counts) {
-        places_good(cards, &counts)
+    place::wipe(counts);
+    if tally_all(lists, head, cards.len(), counts) {
+        places_good(cards, counts)
     } else {
         false
     }

@@ -1,38 +1,54 @@
-// Rule C: live and frozen places hold tables.
+// Rule C: live and frozen places hold tables. Their greatest keys are noted on the way, for the spans of rules E and G.
 ghost use mathlib.Core.Path.{_≡_};
-ghost use mathlib.Core.Bool.{_||_};
+ghost use mathlib.Core.Bool.{true, false, _||_};
+ghost use Prim.Native.Nat.{_≤_};
 ghost use lib.ListN.{length};
 ghost use Rattle.table.specs.Limits.{placeSize};
-ghost use Rattle.table.specs.Table.{isTable};
+ghost use Rattle.table.specs.Table.{isTable, entries};
+ghost use Rattle.table.specs.Search.{greatestKey};
 ghost use Rattle.ldc.specs.Store.{isFree};
 ghost use Rattle.ldc.specs.Layout.{cardOf};
 ghost use Rattle.book.specs.Rows.{Sized};
-ghost use Rattle.check_places.specs.Links.{walkC};
+ghost use Rattle.check_places.specs.Links.{walkC, Noted};
 use book::place;
 use book::row;
 use book::row::Row;
+use coding::key::Key;
 use table::valid;
+use table::valid::Judged;
 
-// Is this place free, or does it hold a table?
-fn place_good(row: &Row, place: &[u8]) -> bool
+// Is this place free, or does it hold a table? And the table's greatest key.
+fn judge_place(row: &Row, place: &[u8]) -> Judged
     requires { ⌜ length (now place) ≡ placeSize ⌝ }
-    ensures { λ r. ⌜ r ≡ isFree (cardOf (now (row .entry))) || isTable (now (place .entry)) ⌝ }
+    ensures { λ r. ⌜
+        (r .good ≡ isFree (cardOf (now (row .entry))) || isTable (now (place .entry)))
+        × (r .good ≡ true → isFree (cardOf (now (row .entry))) ≡ false → r .last .value ≡ greatestKey (entries (now (place .entry))))
+        ⌝ }
 {
     if row::is_free(row) {
-        return true;
+        return Judged {
+            good: true,
+            last: Key::LEAST,
+        };
     }
-    valid::is_table(place)
+    valid::judge(place)
 }
 
-pub fn kept(area: &[u8], cards: &[Row]) -> bool
-    requires { ⌜ Sized (now area) (now cards) ⌝ }
-    ensures { λ r. ⌜ r ≡ walkC (now (area .entry)) (now (cards .entry)) ⌝ }
+// Are all places good? The greatest key of each table is then noted at its place's number.
+pub fn kept(area: &[u8], cards: &[Row], ends: &mut [u64]) -> bool
+    requires { ⌜ Sized (now area) (now cards) × (length (now cards) ≤ length (now ends)) ⌝ }
+    ensures { λ r. ⌜
+        (r ≡ walkC (now (area .entry)) (now (cards .entry)))
+        × (r ≡ true → Noted (now (area .entry)) (now (cards .entry)) (now (ends .exit)))
+        ⌝ }
 {
     let mut p = 0;
     while p < cards.len() {
-        if !place_good(&cards[p], place::bytes_of(area, p)) {
+        let judged = judge_place(&cards[p], place::bytes_of(area, p));
+        if !judged.good {
             return false;
         }
+        ends[p] = judged.last.value;
         p += 1;
     }
     true

@@ -7,18 +7,17 @@ ghost use lib.Dec.{eqb};
 ghost use lib.ListN.{length};
 ghost use Rattle.ldc.specs.Lists.{flat};
 ghost use Rattle.ldc.specs.Store.{isFrozen};
-ghost use Rattle.ldc.specs.Layout.{cardOf, mostPlaces};
+ghost use Rattle.ldc.specs.Layout.{cardOf};
 ghost use Rattle.book.specs.Row.{linksIn};
 ghost use Rattle.check_walk.specs.Links.{linksMarked};
 ghost use Rattle.check_places.specs.Links.{walkF, marksFit};
-use book::limits::MOST_PLACES;
-use book::limits::PerPlace;
 use book::row;
 use book::row::Row;
 use check_walk::named;
+use table_builder::place;
 
 // Marks the places that the links of all cards name.
-fn mark_all(cards: &[Row], marks: &mut PerPlace)
+fn mark_all(cards: &[Row], marks: &mut [u8])
     ensures { λ _. ⌜ now (marks .exit) ≡ linksMarked (now (marks .entry)) (flat (map linksIn (now (cards .entry)))) ⌝ }
 {
     let mut p = 0;
@@ -39,8 +38,8 @@ fn mark_good(row: &Row, mark: u8) -> bool
 }
 
 // The same of all rows.
-fn marks_good(cards: &[Row], marks: &PerPlace) -> bool
-    requires { ⌜ length (now cards) ≤ mostPlaces ⌝ }
+pub fn marks_good(cards: &[Row], marks: &[u8]) -> bool
+    requires { ⌜ length (now cards) ≤ length (now marks) ⌝ }
     ensures { λ r. ⌜ r ≡ marksFit (now (cards .entry)) (now (marks .entry)) ⌝ }
 {
     let mut p = 0;
@@ -53,11 +52,12 @@ fn marks_good(cards: &[Row], marks: &PerPlace) -> bool
     true
 }
 
-pub fn kept(cards: &[Row]) -> bool
-    requires { ⌜ length (now cards) ≤ mostPlaces ⌝ }
+// In `marks` there is room for a mark of each place.
+pub fn kept(cards: &[Row], marks: &mut [u8]) -> bool
+    requires { ⌜ length (now marks) ≡ length (now cards) ⌝ }
     ensures { λ r. ⌜ r ≡ walkF (now (cards .entry)) ⌝ }
 {
-    let mut marks = [0u8; MOST_PLACES];
-    mark_all(cards, &mut marks);
-    marks_good(cards, &marks)
+    place::wipe(marks);
+    mark_all(cards, marks);
+    marks_good(cards, marks)
 }

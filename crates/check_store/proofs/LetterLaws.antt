@@ -7,7 +7,12 @@ use Rattle.ldc.specs.Rules.{ruleA, ruleC, ruleE, ruleF, ruleG}
 use Rattle.ldc.specs.Lent.{Lent, sizesGood, storeOf, countsGood, unusedZero, keptB, presupposed, keptE, keptF, keptG, firstBroken, broken, letterA, letterB, letterC, letterD, letterE, letterF, letterG}
 use Rattle.ldc.specs.Run.{check}
 use Rattle.ldc.proofs.Lent.Letters.{first-none, first-some, letter-5, letter-none}
+use Rattle.table.proofs.Tests.{cases}
+use Rattle.check_places.specs.Links.{walkE, walkF}
+use Rattle.check_places.specs.Parts.{walkG}
+use Rattle.check_places.proofs.RuleLaws.{rule-E, rule-F, rule-G}
 use Rattle.check_store.specs.Answer.{Answers}
+use Rattle.check_store.specs.Rest.{restLetter}
 
 module _ (m : Lent) where
   pub letter-A : ruleA (storeOf m) ≡ false → letterA ≡ firstBroken m
@@ -30,23 +35,40 @@ module _ (m : Lent) where
         letter-D d = rw (a, b, c, d)
 
         module _ (d : isMemory (m .memory) ≡ true) where
-          pub letter-E : (countsGood m && ruleE (storeOf m)) ≡ false → letterE ≡ firstBroken m
+          letter-E : (countsGood m && ruleE (storeOf m)) ≡ false → letterE ≡ firstBroken m
           unfolding firstBroken broken keptE presupposed
           letter-E e = rw (a, b, c, d, e)
 
           module _ (e : (countsGood m && ruleE (storeOf m)) ≡ true) where
-            pub letter-F : ruleF (storeOf m) ≡ false → letterF ≡ firstBroken m
+            letter-F : ruleF (storeOf m) ≡ false → letterF ≡ firstBroken m
             unfolding firstBroken broken keptE keptF presupposed
             letter-F f = rw (a, b, c, d, e, f)
 
             module _ (f : ruleF (storeOf m) ≡ true) where
-              pub letter-G : (unusedZero m && ruleG (storeOf m)) ≡ false → letterG ≡ firstBroken m
+              letter-G : (unusedZero m && ruleG (storeOf m)) ≡ false → letterG ≡ firstBroken m
               unfolding firstBroken broken keptE keptF keptG presupposed
               letter-G g = rw (a, b, c, d, e, f, g)
 
-              pub no-letter : (unusedZero m && ruleG (storeOf m)) ≡ true → 0 ≡ firstBroken m
+              no-letter : (unusedZero m && ruleG (storeOf m)) ≡ true → 0 ≡ firstBroken m
               unfolding firstBroken broken keptE keptF keptG presupposed
               no-letter g = rw (a, b, c, d, e, f, g)
+
+-- ---- the last three rules together
+
+-- The letter of E, F and G is the store's, where the rules before them are kept.
+pub rest-letters : (m : Lent) → sizesGood m ≡ true → ruleA (storeOf m) ≡ true → keptB m ≡ true → ruleC (storeOf m) ≡ true
+    → isMemory (m .memory) ≡ true → restLetter (m .area) (m .cards) (m .lists) (m .head) ≡ firstBroken m
+unfolding restLetter
+rest-letters m z a b c d =
+    cases (walkE (m .area) (m .cards) (m .lists) (m .head))
+    (λ e. let e′ = rule-E m z b c ∙ e in
+    cases (walkF (m .cards))
+    (λ f. let f′ = rule-F m z ∙ f in
+    cases (walkG (m .area) (m .cards) (m .lists) (m .head))
+    (λ g. rw (e, f, g) (no-letter m a b c d e′ f′ (rule-G m z b c ∙ g)))
+    (λ g. rw (e, f, g) (letter-G m a b c d e′ f′ (rule-G m z b c ∙ g))))
+    (λ f. rw (e, f) (letter-F m a b c d e′ (rule-F m z ∙ f))))
+    (λ e. rw e (letter-E m a b c d (rule-E m z b c ∙ e)))
 
 -- ---- the answer
 

@@ -1,18 +1,17 @@
 -- Marks, and links that are apart: one turn of the loops that walk them.
 use Prim.Native.Nat.{ℕ, suc, _+_, _≤_, _<_}
 use mathlib.Core.Path.{_≡_, refl, sym, _∙_}
-use mathlib.Core.Bool.{Bool, true, false, cond, _&&_}
+use mathlib.Core.Bool.{Bool, true, false, _&&_}
 use mathlib.Core.List.{List, [], _∷_, _++_, map}
 use native.Mathlib.Numerals.{add-one}
-use lib.Dec.{ltb}
-use lib.ListN.{length, getD, drop, set, drop-of-length-le}
+use lib.ListN.{length, getD, drop, set, length-set, drop-of-length-le}
 use lib.Seq.{drop-cons}
 use Rattle.ldc.specs.Lists.{all, flat}
 use Rattle.ldc.specs.Store.{Link}
 use Rattle.book.specs.Rows.{linksOn}
 use Rattle.check_walk.specs.Links.{pairs, linksOver, linksMarked}
 use Rattle.book.specs.Row.{linksIn}
-use Rattle.ldc.specs.Layout.{linkAt, mostPlaces}
+use Rattle.ldc.specs.Layout.{linkAt}
 use Rattle.book.proofs.Rows.{links-cons, link-in}
 
 -- ---- marks
@@ -20,12 +19,18 @@ use Rattle.book.proofs.Rows.{links-cons, link-in}
 pub mark-append : (t : List ℕ) (ls ms : List Link) → linksMarked t (ls ++ ms) ≡ linksMarked (linksMarked t ls) ms
 unfolding linksMarked
 mark-append t [] ms = refl
-mark-append t (l ∷ ls) ms = mark-append (cond (ltb (l .place) mostPlaces) (set t (l .place) 1) t) ls ms
+mark-append t (l ∷ ls) ms = mark-append (set t (l .place) 1) ls ms
+
+-- They are as many as before.
+pub long-marks : (t : List ℕ) (ls : List Link) → length (linksMarked t ls) ≡ length t
+unfolding linksMarked
+long-marks t [] = refl
+long-marks t (l ∷ ls) = long-marks (set t (l .place) 1) ls ∙ length-set t (l .place) 1
 
 module _ (t row : List ℕ) (j : ℕ) where
   pub mark-turn : j < length (linksIn row)
       → linksMarked t (drop j (linksIn row))
-      ≡ linksMarked (cond (ltb (linkAt row j .place) mostPlaces) (set t (linkAt row j .place) 1) t) (drop (j + 1) (linksIn row))
+      ≡ linksMarked (set t (linkAt row j .place) 1) (drop (j + 1) (linksIn row))
   unfolding linksMarked
   mark-turn h = rw (links-cons row j h)
 

@@ -6,14 +6,12 @@ ghost use Rattle.ldc.specs.Lists.{all};
 ghost use Rattle.book.specs.Row.{theLink, linksIn};
 ghost use Rattle.check_walk.specs.Links.{linksOver, unmarked, linksMarked};
 ghost use Rattle.check_walk.specs.Lists.{namesPlaces};
-use book::limits::MOST_PLACES;
-use book::limits::PerPlace;
 use book::row;
 use book::row::Link;
 use book::row::Row;
 
 // Marks the places that the links of this row name.
-pub fn mark_row(row: &Row, marks: &mut PerPlace)
+pub fn mark_row(row: &Row, marks: &mut [u8])
     ensures { λ _. ⌜ now (marks .exit) ≡ linksMarked (now (marks .entry)) (linksIn (now (row .entry))) ⌝ }
 {
     let n = row::links_held(row);
@@ -21,7 +19,7 @@ pub fn mark_row(row: &Row, marks: &mut PerPlace)
     while j < n {
         let l = row::link_at(row, j);
         let p = l.place;
-        if p < MOST_PLACES {
+        if p < marks.len() {
             marks[p] = 1;
         }
         j += 1;
@@ -29,7 +27,7 @@ pub fn mark_row(row: &Row, marks: &mut PerPlace)
 }
 
 // The same for all tables of a list.
-pub fn mark_items(cards: &[Row], items: &[u16], marks: &mut PerPlace)
+pub fn mark_items(cards: &[Row], items: &[u16], marks: &mut [u8])
     requires { ⌜ namesPlaces (length (now cards)) (now items) ≡ true ⌝ }
     ensures { λ _. ⌜ now (marks .exit) ≡ linksMarked (now (marks .entry)) (linksOver (now (cards .entry)) (now (items .entry))) ⌝ }
 {
@@ -42,18 +40,18 @@ pub fn mark_items(cards: &[Row], items: &[u16], marks: &mut PerPlace)
 }
 
 // Is the place that this link names not marked?
-fn link_unmarked(l: Link, marks: &PerPlace) -> bool
+fn link_unmarked(l: Link, marks: &[u8]) -> bool
     ensures { λ r. ⌜ r ≡ unmarked (now (marks .entry)) (theLink l) ⌝ }
 {
     let p = l.place;
-    if p < MOST_PLACES {
+    if p < marks.len() {
         return marks[p] == 0;
     }
     true
 }
 
 // The same of all links of a row.
-fn row_unmarked(row: &Row, marks: &PerPlace) -> bool
+fn row_unmarked(row: &Row, marks: &[u8]) -> bool
     ensures { λ r. ⌜ r ≡ all (unmarked (now (marks .entry))) (linksIn (now (row .entry))) ⌝ }
 {
     let n = row::links_held(row);
@@ -68,7 +66,7 @@ fn row_unmarked(row: &Row, marks: &PerPlace) -> bool
 }
 
 // The same of all tables of a list.
-pub fn items_unmarked(cards: &[Row], items: &[u16], marks: &PerPlace) -> bool
+pub fn items_unmarked(cards: &[Row], items: &[u16], marks: &[u8]) -> bool
     requires { ⌜ namesPlaces (length (now cards)) (now items) ≡ true ⌝ }
     ensures { λ r. ⌜ r ≡ all (unmarked (now (marks .entry))) (linksOver (now (cards .entry)) (now (items .entry))) ⌝ }
 {

@@ -1,5 +1,5 @@
--- What a tidy gives, against the definition's step; and a table that may be merged or taken down. Which memory table stands beside the
--- other pieces does not matter to a step.
+-- What a tidy gives, against the definition's step; the plan that it follows; and a table that may be merged or taken down. Which memory
+-- table stands beside the other pieces does not matter to a step.
 use Prim.Native.Nat.{ℕ}
 use mathlib.Core.Path.{_≡_}
 use mathlib.Core.Bool.{cond}
@@ -13,8 +13,15 @@ use Rattle.ldc.specs.Tidy.{Step}
 use Rattle.ldc.specs.Steps.{stepServed}
 use Rattle.ldc.specs.Facts.{Merging, Chosen}
 use Rattle.book.specs.Pieces.{Beside}
+use Rattle.compact_pick.specs.Plan.{planOf}
+use Rattle.compact_pick.specs.declared.Plan.{Plan}
 use Rattle.compact_install.specs.Merge.{Backed, Workable}
 use Rattle.compact.specs.declared.step.Tidied.{Tidied}
+
+-- Pieces that a step may be done to, with the plan of the store that they show, whatever memory table stands beside them.
+pub record Follows (m : Beside) (plan : Plan) : Type 0 where
+  pub work : Workable m
+  pub planned : (memory : List ℕ) → Backed (m memory) → plan ≡ planOf (storeOf (m memory))
 
 -- Pieces that a step may be done to, with a table that is merged.
 pub record Mergeable (m : Beside) (n p : ℕ) : Type 0 where

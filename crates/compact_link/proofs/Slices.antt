@@ -1,6 +1,6 @@
 -- The slices to hang, one at a time: the next entry's key decides which table is responsible, the tables passed by have no entry in their
 -- ranges, and where no entry is left there is nothing more to hang. By induction on the tables, whose spans rise.
-use Prim.Native.Nat.{ℕ, zero, suc, _-_, _≤_, _<_, _^_, min}
+use Prim.Native.Nat.{ℕ, zero, suc, _-_, _≤_, _<_, _^_}
 use mathlib.Core.Path.{_≡_, refl, sym, _∙_, ap}
 use mathlib.Core.Bool.{true, false, _&&_}
 use mathlib.Core.List.{List, [], _∷_, List·Memᴰ, List·Memᴰ·head, List·Memᴰ·tail, List·Memᴰ·cases-cons}
@@ -11,16 +11,16 @@ use borrow.Author.Tests.{leb-true, leb-false, le-leb, ltb-true, ltb-false, eqb-t
 use lib.Dec.{leb, ltb, eqb}
 use lib.ListN.{length, getD, drop}
 use Rattle.table.specs.Entry.{Entry}
-use Rattle.table.specs.Search.{find, leastKey}
-use Rattle.ldc.specs.Lists.{isSome, isEmpty}
+use Rattle.table.specs.Search.{firstFrom, leastKey}
+use Rattle.table.specs.Valid.{Keys}
+use Rattle.ldc.specs.Lists.{isEmpty}
 use Rattle.ldc.specs.Store.{Store, table, links, within, spanStart, spanEnd}
 use Rattle.ldc.specs.Tidy.{greatest}
-use Rattle.ldc.proofs.Basics.Cases.{cases, maybe, clash, both, both-left, both-right}
+use Rattle.ldc.proofs.Basics.Cases.{cases, clash, both, both-left, both-right}
+use Rattle.ldc.proofs.Entries.Keys.{head-below}
 use Rattle.ldc.proofs.Stores.Spans.{Readable, leastEnd-own, least-greatest, greatest-high}
 use Rattle.ldc.specs.Facts.{Spans}
 use Rattle.read.specs.Level.{rank}
-use Rattle.read_seek.specs.Least.{leastFrom}
-use Rattle.read_seek.proofs.LeastKey.{least-found}
 use Rattle.compact_link.specs.Range.{keeper, lowOf, highOf, sliceAt, slicesFrom}
 
 -- ---- the next entry from a point on
@@ -35,57 +35,57 @@ pub record Next (from k : ℕ) (es : List Entry) : Type 0 where
 abbrev pub Spent : (from : ℕ) → List Entry → Type 0
 Spent from es = (e : Entry) → List·Memᴰ e es → e .key < from
 
-some-clash : {P : Type 0} (j : ℕ) (o : Option ℕ) → o ≡ some j → o ≡ none → P
-some-clash j o p q = absurd (let z : _≡_ {A = ℕ} 0 1 = cc in omega arith)
+some-clash : {P : Type 0} (e : Entry) (o : Option Entry) → o ≡ some e → o ≡ none → P
+some-clash e o p q = absurd (let z : _≡_ {A = ℕ} 0 1 = cc in omega arith)
 
-pub spent-of : (k : ℕ) (es : List Entry) → leastFrom k es ≡ none → Spent k es
-unfolding leastFrom
+pub spent-of : (k : ℕ) (es : List Entry) → firstFrom k es ≡ none → Spent k es
+unfolding firstFrom
 spent-of k [] h e m = absurd (elim m [ ])
 spent-of k (x ∷ xs) h e m =
     cases (leb k (x .key))
-    (λ q. maybe (leastFrom k xs)
-    (λ n. let z : _≡_ {A = Option ℕ} (some (x .key)) none = rw (q, n) at h in some-clash (x .key) (some (x .key)) refl z)
-    (λ i n. let z : _≡_ {A = Option ℕ} (some (min (x .key) i)) none = rw (q, n) at h in some-clash (min (x .key) i) (some (min (x .key) i)) refl z))
+    (λ q. some-clash x (some x) refl (rw q at h))
     (λ q. ⊎-elim
     (λ r. let same : e .key ≡ x .key = ap (λ (y : Entry). y .key) r in omega (arith, leb-false k (x .key) q))
     (λ t. spent-of k xs (rw q at h) e t)
     (List·Memᴰ·cases-cons m))
 
-least-all : (k : ℕ) (es : List Entry) (j : ℕ) → leastFrom k es ≡ some j → (e : Entry) → List·Memᴰ e es → k ≤ e .key → j ≤ e .key
-unfolding leastFrom
-least-all k [] j h e m l = absurd (elim m [ ])
-least-all k (x ∷ xs) j h e m l =
-    cases (leb k (x .key))
-    (λ q. maybe (leastFrom k xs)
-    (λ n. let z : _≡_ {A = Option ℕ} (some (x .key)) (some j) = rw (q, n) at h in
-    let same : x .key ≡ j = cc in
+-- Rising entries have keys from `low` on and below `high`.
+pub keys-member : (low high : ℕ) (es : List Entry) (e : Entry) → Keys low high es → List·Memᴰ e es → (low ≤ e .key) × (e .key < high)
+keys-member low high [] e h m = absurd (elim m [ ])
+keys-member low high (x ∷ xs) e h m =
     ⊎-elim
-    (λ r. let here : e .key ≡ x .key = ap (λ (y : Entry). y .key) r in omega arith)
-    (λ t. omega (arith, spent-of k xs n e t))
-    (List·Memᴰ·cases-cons m))
-    (λ i n. let z : _≡_ {A = Option ℕ} (some (min (x .key) i)) (some j) = rw (q, n) at h in
-    let same : min (x .key) i ≡ j = cc in
-    ⊎-elim
-    (λ r. let here : e .key ≡ x .key = ap (λ (y : Entry). y .key) r in omega arith)
-    (λ t. omega (arith, least-all k xs i n e t l))
-    (List·Memᴰ·cases-cons m)))
-    (λ q. ⊎-elim
-    (λ r. let here : e .key ≡ x .key = ap (λ (y : Entry). y .key) r in omega (arith, leb-false k (x .key) q))
-    (λ t. least-all k xs j (rw q at h) e t l)
-    (List·Memᴰ·cases-cons m))
+    (λ r. let same : e .key ≡ x .key = ap (λ (y : Entry). y .key) r in (omega (arith, h .0), omega (arith, head-below low high x xs h)))
+    (λ t. let r = keys-member (suc (x .key)) high xs e (h .1) t in (omega (arith, h .0, r .0), r .1))
+    (List·Memᴰ·cases-cons m)
 
-found-member : (j : ℕ) (es : List Entry) → isSome (find j es) ≡ true → (e : Entry) × (List·Memᴰ e es × (e .key ≡ j))
-unfolding find
-found-member j [] h = clash h refl
-found-member j (x ∷ xs) h =
-    cases (eqb (x .key) j)
-    (λ q. (x, (List·Memᴰ·head refl, eqb-true (x .key) j q)))
-    (λ q. let r = found-member j xs (rw q at h) in (r .0, (List·Memᴰ·tail (r .1 .0), r .1 .1)))
-
-pub next-of : (from k : ℕ) (es : List Entry) → leastFrom from es ≡ some k → Next from k es
-next-of from k es h =
-    let f = least-found from es k h in
-    record { above = f .0; holds = found-member k es (f .1); least = least-all from es k h }
+-- The first of rising entries from a point on has the least key.
+pub next-of : (from low high : ℕ) (es : List Entry) (e : Entry) → Keys low high es → firstFrom from es ≡ some e → Next from (e .key) es
+unfolding firstFrom
+next-of from low high [] e h f = some-clash e none f refl
+next-of from low high (x ∷ xs) e h f =
+    cases (leb from (x .key))
+    (λ q. let z : _≡_ {A = Option Entry} (some x) (some e) = rw q at f in
+    let same : x ≡ e = cc in
+    let key : x .key ≡ e .key = ap (λ (y : Entry). y .key) same in
+    record {
+      above = omega (arith, leb-true from (x .key) q);
+      holds = (x, (List·Memᴰ·head refl, key));
+      least = λ y m l.
+          ⊎-elim
+          (λ r. let here : y .key ≡ x .key = ap (λ (w : Entry). w .key) r in omega arith)
+          (λ t. omega (arith, keys-member (suc (x .key)) high xs y (h .1) t .0))
+          (List·Memᴰ·cases-cons m);
+    })
+    (λ q. let r = next-of from (suc (x .key)) high xs e (h .1) (rw q at f) in
+    record {
+      above = r .above;
+      holds = (r .holds .0, (List·Memᴰ·tail (r .holds .1 .0), r .holds .1 .1));
+      least = λ y m l.
+          ⊎-elim
+          (λ w. let here : y .key ≡ x .key = ap (λ (v : Entry). v .key) w in omega (arith, leb-false from (x .key) q))
+          (λ t. r .least y t l)
+          (List·Memᴰ·cases-cons m);
+    })
 
 next-later : (from from′ k : ℕ) (es : List Entry) → from ≤ from′ → from′ ≤ k → Next from k es → Next from′ k es
 next-later from from′ k es a b n = record { above = b; holds = n .holds; least = λ e m l. n .least e m (omega arith) }

@@ -1,38 +1,43 @@
 -- One turn of the loop that hangs slices: a link more on the responsible table, and what is left to hang is what the tables behind it take.
 use Prim.Native.Nat.{ℕ, suc, _+_, _-_, _≤_, _<_}
 use mathlib.Core.Path.{_≡_, refl, sym, _∙_, ap}
-use mathlib.Core.Bool.{false≢true}
 use mathlib.Core.List.{List, []}
-use mathlib.Core.Option.{some, none}
 use native.Mathlib.Omega.{arith}
 use native.Mathlib.Numerals.{add-one}
-use borrow.Author.Tests.{ltb-true, ltb-false}
-use lib.Dec.{ltb}
 use lib.ListN.{length, getD, take, drop, length-set, length-drop, drop-of-length-le}
 use lib.Seq.{take-all, drop-drop}
 use Rattle.coding.specs.Number.{Bytes}
-use Rattle.table.specs.Entry.{Entry}
+use Rattle.table.specs.Entry.{Entry, keyAt, entryAt}
+use Rattle.table.specs.Table.{entries}
+use Rattle.table.specs.Search.{seekIn, shown}
+use Rattle.table.specs.declared.search.Found.the-variants as found
+use Rattle.table.proofs.Found.{shown-seek, entryAt-key}
 use Rattle.table.specs.Valid.{Keys}
-use Rattle.ldc.specs.Lists.{isSome}
 use Rattle.ldc.specs.Store.{Store}
 use Rattle.ldc.specs.Tidy.{Slice, greatest}
-use Rattle.ldc.proofs.Basics.Cases.{cases}
-use Rattle.ldc.proofs.Entries.Keys.{find-above}
 use Rattle.ldc.specs.Facts.{Spans}
 use Rattle.read.specs.Shown.{Tabled}
-use Rattle.read_seek.specs.Least.{leastFrom}
-use Rattle.read_seek.proofs.LeastKey.{least-found}
 use Rattle.read.proofs.Rank.{all-readable}
 use Rattle.compact_link.specs.Range.{keeper, highOf, sliceAt, slicesFrom, hungRow, hungRows, Hosts}
-use Rattle.compact_link.proofs.Slices.{spent-of, next-of, keeper-few, high-other, slices-nil, slices-spent, slices-met, end-room}
+use Rattle.compact_link.proofs.Slices.{Next, Spent, spent-of, next-of, keys-member, keeper-few, high-other, slices-nil, slices-spent, slices-met, end-room}
 use Rattle.compact_link.proofs.Rows.{hung-below, hung-slices}
 use Rattle.book.specs.Rows.{shownBy}
 
+-- ---- what a search of a table says
+
+module _ (s : List ℕ) (from : ℕ) where
+  pub seek-spent : seekIn s from ≡ found.Nothing → Spent from (entries s)
+  unfolding shown
+  seek-spent h = spent-of from (entries s) (sym (shown-seek s from) ∙ ap (shown s) h)
+
+  pub seek-next : (at key lo hi : ℕ) → Keys lo hi (entries s) → seekIn s from ≡ found.At at → key ≡ keyAt s at → Next from key (entries s)
+  unfolding shown
+  seek-next at key lo hi h f k =
+      rw (k ∙ sym (entryAt-key s at)) (next-of from lo hi (entries s) (entryAt s at) h (sym (shown-seek s from) ∙ ap (shown s) f))
+
 -- What is found from a point on is a key.
-pub least-bound : (from k lo hi : ℕ) (es : List Entry) → Keys lo hi es → leastFrom from es ≡ some k → k < hi
-least-bound from k lo hi es h e =
-    cases (ltb k hi) (λ q. ltb-true k hi q)
-    (λ q. absurd (false≢true (sym (ap isSome (find-above k lo hi es h (ltb-false k hi q))) ∙ least-found from es k e .1)))
+pub next-bound : (from k lo hi : ℕ) (es : List Entry) → Keys lo hi es → Next from k es → k < hi
+next-bound from k lo hi es h n = omega (arith, n .holds .1 .1, keys-member lo hi es (n .holds .0) h (n .holds .1 .0) .1)
 
 -- The items from one on, as the code takes them.
 pub rest-items : (items : List ℕ) (first : ℕ) → take (length items - first) (drop first items) ≡ drop first items
@@ -49,9 +54,9 @@ module _ (s : Store) (es : List Entry) (p low : ℕ) (cards : List (List ℕ)) w
       let e : drop first items ≡ [] = drop-of-length-le items {i = first} h in
       rw (e, slices-nil s es p low)
 
-  pub none-spent : (qs : List ℕ) → leastFrom low es ≡ none → Spans s low qs → hungRows es (slicesFrom s es p low qs) cards ≡ cards
+  pub none-spent : (qs : List ℕ) → Spent low es → Spans s low qs → hungRows es (slicesFrom s es p low qs) cards ≡ cards
   unfolding hungRows
-  none-spent qs h o = rw (slices-spent s es p low qs (spent-of low es h) o)
+  none-spent qs h o = rw (slices-spent s es p low qs h o)
 
 -- What a turn leaves.
 pub record Turned (area : List ℕ) (cards cards′ : List (List ℕ)) (items : List ℕ) (es : List Entry) (p from first at high : ℕ) : Type 0 where
@@ -63,7 +68,7 @@ pub record Turned (area : List ℕ) (cards cards′ : List (List ℕ)) (items : 
   pub room : (first + (at + 1) ≡ length items → ⊥) → high < greatest
 
 module _ (area : List ℕ) (cards cards′ : List (List ℕ)) (qs : List ℕ) (es : List Entry) (p from k at high : ℕ) (bytes : Bytes area)
-    (b : Hosts area cards from qs) (some′ : 1 ≤ length qs) (t : Tabled area p) (met : leastFrom from es ≡ some k) (key : k ≤ greatest)
+    (b : Hosts area cards from qs) (some′ : 1 ≤ length qs) (t : Tabled area p) (met : Next from k es) (key : k ≤ greatest)
     (ae : at ≡ keeper (shownBy area cards) k qs) (he : high ≡ highOf (shownBy area cards) qs at)
     (ce : cards′ ≡ hungRow es (sliceAt (shownBy area cards) p from qs at) cards) where
   r : Slice
@@ -87,7 +92,7 @@ module _ (area : List ℕ) (cards cards′ : List (List ℕ)) (qs : List ℕ) (e
   turn-left : hungRows es (slicesFrom (shownBy area cards) es p from qs) cards ≡ hungRows es (slicesFrom (shownBy area cards′) es p (suc high) (drop (suc at) qs)) cards′
   unfolding hungRows r
   turn-left =
-      ap (λ (rs : List Slice). hungRows es rs cards) (slices-met (shownBy area cards) es p from k qs (next-of from k es met) key (b .spans) some′)
+      ap (λ (rs : List Slice). hungRows es rs cards) (slices-met (shownBy area cards) es p from k qs met key (b .spans) some′)
       ∙ rw (← ae, ← he)
       (ap (λ (rs : List Slice). hungRows es rs (hungRow es r cards)) (sym (hung-slices area cards from qs b at few es r on place p (suc high)))
       ∙ rw (← ce))
@@ -99,7 +104,7 @@ module _ (area : List ℕ) (cards cards′ : List (List ℕ)) (qs : List ℕ) (e
 
 -- A turn over the tables from one on.
 pub turned : (area : List ℕ) (cards cards′ : List (List ℕ)) (items part : List ℕ) (es : List Entry) (p from first k at high : ℕ) → Bytes area
-    → part ≡ drop first items → first < length items → Hosts area cards from (drop first items) → Tabled area p → leastFrom from es ≡ some k → k ≤ greatest
+    → part ≡ drop first items → first < length items → Hosts area cards from (drop first items) → Tabled area p → Next from k es → k ≤ greatest
     → at ≡ keeper (shownBy area cards) k part → high ≡ highOf (shownBy area cards) part at
     → cards′ ≡ hungRow es (sliceAt (shownBy area cards) p from part at) cards
     → Turned area cards cards′ items es p from first at high

@@ -12,8 +12,7 @@ use book::row::Link;
 use book::row::Row;
 use coding::key::Key;
 use read::place;
-use read_seek::least;
-use read_seek::least::Least;
+use table::search::Found;
 
 // Which of the tables gained a link, and to where it is responsible.
 pub struct Hung {
@@ -58,9 +57,10 @@ fn hang_all(area: &[u8], cards: &mut [Row], items: &[u16], p: usize)
     let mut first = 0;
     let mut from = Key::LEAST;
     while first < items.len() {
-        let Least::At(key) = least::in_table(area, p, from) else {
+        let Found::At(at) = place::seek(area, p, from) else {
             return;
         };
+        let key = place::key_of(area, p, at);
         let hung = hang_at(area, cards, &items[first..], p, from, key);
         first += hung.at + 1;
         if first == items.len() {

@@ -1,15 +1,17 @@
--- The laws of `merger`.
+-- The laws of `compact_merge`.
 --   Sources   what a merge has before it: at most nine lists of valid entries
 --   Merged    what comes out is valid, and at most nine tables
---   Comes     what comes out, key by key
---   Taken     entries taken from where they stand
+--   Spots     which entry stands at which spot
+--   Sifts     spots of entries that come out moved to the front
+--   Comes     what a merge gathers and lets out
 --   Fill      filling a table
 --   Written   one table after the other
 --   Given     what a caller needs of the tables that come out
 pub mod Sources
 pub mod Merged
+pub mod Spots
+pub mod Sifts
 pub mod Comes
-pub mod Taken
 pub mod Fill
 pub mod Written
 pub mod Given

@@ -1,66 +1,58 @@
 -- The tables of a merge, one after the other: what is written and what is left make the whole, from the first table to the last.
-use Prim.Native.Nat.{ℕ, _+_, _*_, _≤_, _<_, _^_}
+use Prim.Native.Nat.{ℕ, zero, suc, _+_, _*_, _≤_, _<_, _^_}
 use mathlib.Core.Path.{_≡_, refl, sym, _∙_, ap}
 use mathlib.Core.List.{List, [], _∷_}
 use native.Mathlib.Omega.{arith}
-use lib.ListN.{length, take, drop}
-use lib.Seq.{sets}
+use lib.ListN.{length, take, drop, length-drop, drop-of-length-le}
+use lib.Seq.{sets, drop-drop}
 use Rattle.coding.proofs.Sets.{sets-append}
 use Rattle.table.specs.Limits.{tableLimit, placeSize}
 use Rattle.table.specs.Entry.{Entry}
 use Rattle.table.specs.Table.{tableBytes}
 use Rattle.table.specs.Valid.{Keys, Values}
 use Rattle.ldc.specs.Tidy.{cut}
-use Rattle.read.specs.declared.found.Hit.{Hit}
-use Rattle.read.specs.declared.found.Hit.the-variants.{At, Nothing}
-use Rattle.compact_merge.specs.Merge.{bytesOut, fromKey, fromHit, Leads}
+use Rattle.ldc.proofs.Entries.Keys.{values-drop, keys-tail}
+use Rattle.compact_merge.specs.Merge.{bytesOut}
 use Rattle.compact_merge.proofs.Merged.{cut-turn, cut-none, piece-long}
-use Rattle.compact_merge.proofs.Comes.{from-least, leads-split}
-use Rattle.compact_merge.proofs.Fill.{left-keys, left-values}
 
-leads-rest : (area : List ℕ) (es left : List Entry) (h : Hit) → Leads area es left h → Leads area es (fromHit area h es) h
-leads-rest area es left h l = record { hits = rw (l .rest) (l .hits); rest = refl }
+keys-drop : (n low high : ℕ) (es : List Entry) → Keys low high es → Keys low high (drop n es)
+keys-drop zero low high es h = h
+keys-drop (suc n) low high [] h = h
+keys-drop (suc n) low high (e ∷ es) h = keys-drop n low high es (keys-tail low high e es h)
 
--- So many tables are written, and the next entry is found.
-pub record Merging (area : List ℕ) (es : List Entry) (before out : List ℕ) (tables : ℕ) (h : Hit) : Type 0 where
-  pub written : sets before 0 (bytesOut (cut es)) ≡ sets out (tables * placeSize) (bytesOut (cut (fromHit area h es)))
-  pub count : length (cut es) ≡ tables + length (cut (fromHit area h es))
-  pub next : Leads area es (fromHit area h es) h
+-- So many tables are written, and entries from this one on are left.
+pub record Writing (es : List Entry) (before out : List ℕ) (tables from : ℕ) : Type 0 where
+  pub long : length out ≡ length before
+  pub written : sets before 0 (bytesOut (cut es)) ≡ sets out (tables * placeSize) (bytesOut (cut (drop from es)))
+  pub count : length (cut es) ≡ tables + length (cut (drop from es))
+  pub even : from ≡ tableLimit * tables
 
-module _ (area : List ℕ) (es : List Entry) (k : Keys 0 (2 ^ 64) es) (before : List ℕ) where
-  pub merge-none : (h : Hit) → Leads area es (fromKey 0 es) h → Merging area es before before 0 h
-  merge-none h l =
-      let all : fromHit area h es ≡ es = l .rest ∙ from-least es k in
-      record { written = rw all; count = rw all (omega arith); next = leads-rest area es (fromKey 0 es) h l }
+pub write-none : (es : List Entry) (before : List ℕ) → Writing es before before 0 0
+write-none es before = record { long = refl; written = refl; count = omega arith; even = refl }
 
-  module _ (out : List ℕ) (tables : ℕ) (h : Hit) (m : Merging area es before out tables h) where
-    -- Nothing is left.
-    pub merge-done : h ≡ Nothing → (tables ≡ length (cut es)) × (out ≡ sets before 0 (bytesOut (cut es)))
-    unfolding bytesOut
-    merge-done none =
-        let end : cut (fromHit area h es) ≡ [] = rw none cut-none in
-        (omega (arith, m .count, ap length end), sym (m .written ∙ rw end))
+module _ (es : List Entry) (before out : List ℕ) (tables from : ℕ) (w : Writing es before out tables from) where
+  pub write-done : length es ≤ from → (tables ≡ length (cut es)) × (out ≡ sets before 0 (bytesOut (cut es)))
+  unfolding bytesOut
+  write-done h =
+      let end : cut (drop from es) ≡ [] = ap cut (drop-of-length-le es {i = from} h) ∙ cut-none in
+      (omega (arith, w .count, ap length end), sym (w .written ∙ rw end))
 
-    module _ (q at : ℕ) (here : h ≡ At q at) where
-      some-left : 1 ≤ length (fromHit area h es)
-      some-left = rw here (let s = leads-split area es (fromHit area (At q at) es) q at k (rw here at (m .next)) in omega (arith, ap length s))
-
-      pub merge-room : tables < length (cut es)
-      merge-room = omega (arith, m .count, ap length (cut-turn (fromHit area h es) some-left))
-
-      -- One table more.
-      pub merge-turn : (part : List ℕ) (h′ : Hit) → Values es → part ≡ tableBytes (take tableLimit (fromHit area h es))
-          → Leads area es (drop tableLimit (fromHit area h es)) h′ → Merging area es before (sets out (tables * placeSize) part) (tables + 1) h′
-      unfolding bytesOut
-      merge-turn part h′ v w l =
-          let left : List Entry = fromHit area h es in
-          let rest : List Entry = drop tableLimit left in
-          let now : List ℕ = tableBytes (take tableLimit left) in
-          let turn : cut left ≡ take tableLimit left ∷ cut rest = cut-turn left some-left in
-          let long : length now ≡ placeSize = piece-long left (left-keys area h es k) (left-values area h es v) some-left in
-          let at : tables * placeSize + length now ≡ (tables + 1) * placeSize = omega arith in
-          record {
-            written = m .written ∙ rw (turn, l .rest) (sets-append out (tables * placeSize) now (bytesOut (cut rest)) ∙ rw (at, w));
-            count = rw (l .rest) (omega (arith, m .count, ap length turn));
-            next = leads-rest area es rest h′ l;
-          }
+  pub write-turn : (next part : List ℕ) → Keys 0 (2 ^ 64) es → Values es → from < length es → next ≡ sets out (tables * placeSize) part → length next ≡ length out
+      → part ≡ tableBytes (take tableLimit (drop from es)) → Writing es before next (tables + 1) (from + tableLimit)
+  unfolding bytesOut
+  write-turn next part k v h n nl p =
+      let left : List Entry = drop from es in
+      let rest : List Entry = drop tableLimit left in
+      let some : 1 ≤ length left = omega (arith, length-drop from es) in
+      let turn : cut left ≡ take tableLimit left ∷ cut rest = cut-turn left some in
+      let long : length (tableBytes (take tableLimit left)) ≡ placeSize = piece-long left (keys-drop from 0 (2 ^ 64) es k) (values-drop from es v) some in
+      let at : tables * placeSize + length (tableBytes (take tableLimit left)) ≡ (tables + 1) * placeSize = omega arith in
+      let further : rest ≡ drop (from + tableLimit) es = drop-drop tableLimit from es in
+      record {
+        long = nl ∙ w .long;
+        written = w .written ∙ ap (λ (ts : List (List Entry)). sets out (tables * placeSize) (bytesOut ts)) turn
+            ∙ sets-append out (tables * placeSize) (tableBytes (take tableLimit left)) (bytesOut (cut rest))
+            ∙ rw (at, sym further, n, p);
+        count = rw (sym further) (omega (arith, w .count, ap length turn));
+        even = omega (arith, w .even);
+      }

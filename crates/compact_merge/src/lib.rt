@@ -1,4 +1,4 @@
-// What comes out of a merge: `entries` finds one entry after the other, `tables` builds the tables in a buffer, before anything is written
-// to the store.
-mod entries;
+// What comes out of a merge, built in a buffer before anything is written to the store: `sift` says which of the gathered entries do,
+// `tables` gathers them and writes them in tables.
+mod sift;
 pub mod tables;

@@ -2,9 +2,11 @@
 // at most its entry count.
 ghost use mathlib.Core.Path.{_≡_};
 ghost use mathlib.Core.List.{[]};
+ghost use Prim.Native.Nat.{_<_};
 ghost use lib.Dec.{leb};
 ghost use Rattle.table.specs.Table.{entries, placeOf};
 ghost use Rattle.ldc.specs.Lists.{first};
+ghost use Rattle.ldc.specs.Layout.{levelCount};
 ghost use Rattle.ldc.specs.Store.{Store};
 ghost use Rattle.ldc.specs.Tidy.{weight, dueWith, dueTable};
 ghost use Rattle.book.specs.Head.{headWords};
@@ -14,6 +16,7 @@ ghost use Rattle.book.specs.Row.{linksIn};
 ghost use Rattle.book.specs.Rows.{linksOn};
 ghost use Rattle.read.specs.Look.{Levels};
 ghost use Rattle.read.specs.Shown.{Legible, Tabled};
+ghost use Rattle.compact_pick.specs.Calm.{CalmBut, lookedAt};
 ghost use Rattle.compact_pick.specs.Due.{passesBy, Items, ToldBy, theDue};
 use book::head::Head;
 use book::index::Index;
@@ -95,14 +98,27 @@ pub fn find_table(area: &[u8], cards: &[Row], items: &[u16], wanted: Wanted) -> 
     Index::Nothing
 }
 
-// The due table of the lowest level, and there of the lowest keys.
-pub fn find_due(area: &[u8], cards: &[Row], lists: &[u16], head: Head) -> Due
+// How many tables of level n are looked at: all, or none where only another level can have a due one.
+fn count_looked_at(head: Head, suspect: usize, n: usize) -> usize
+    requires { ⌜ n < levelCount ⌝ }
+    ensures { λ r. ⌜ r ≡ lookedAt (headWords head) suspect n ⌝ }
+{
+    if (suspect < LEVELS) & (suspect != n) {
+        return 0;
+    }
+    head.length_of(n)
+}
+
+// The due table of the lowest level, and there of the lowest keys. `suspect` is the one level that can have any, or says nothing.
+pub fn find_due(area: &[u8], cards: &[Row], lists: &[u16], head: Head, suspect: usize) -> Due
     requires { ⌜ Levels (now area) (now cards) (now lists) (headWords head) ⌝ }
-    ensures { λ r. ⌜ ((s : Store) → ToldBy s (heldBeside area cards lists head []) → theDue r ≡ dueTable s) ⌝ }
+    ensures { λ r. ⌜
+        ((s : Store) → ToldBy s (heldBeside area cards lists head []) → CalmBut suspect s → theDue r ≡ dueTable s)
+        ⌝ }
 {
     let mut n = 1;
     while n < LEVELS {
-        let items = list::items(lists, cards.len(), head.length_of(n), n);
+        let items = list::items(lists, cards.len(), count_looked_at(head, suspect, n), n);
         if let Index::At(p) = find_table(area, cards, items, Wanted::DueBy(head.threshold)) {
             return Due::At(n, p);
         }

@@ -19,7 +19,7 @@ use Rattle.ldc.specs.Lent.{Lent, placesIn, storeOf}
 use Rattle.ldc.specs.Read.{readOrder}
 use Rattle.ldc.proofs.Stores.CardFacts.{live-not-free, frozen-not-free}
 use Rattle.ldc.proofs.Stores.Facts.{listed-live, link-frozen}
-use Rattle.ldc.proofs.Stores.Frame.{spansRise-same, sources-same, reads-same}
+use Rattle.ldc.proofs.Stores.Frame.{spansRise-same, sources-same}
 use Rattle.ldc.proofs.Lent.Parts.{links-of, length-linksAt}
 use Rattle.ldc.proofs.Lent.Rules.{unbroken}
 use Rattle.ldc.proofs.Lent.Shows.{sizes, size-storeOf, whole-storeOf, bytes-storeOf}
@@ -27,11 +27,11 @@ use Rattle.ldc.proofs.Basics.ListLaws.{mem-getD, length-parts}
 use Rattle.ldc.proofs.Lent.Round.{chop-parts}
 use Rattle.ldc.proofs.Stores.Sound.{Sound}
 use Rattle.ldc.proofs.Stores.SoundRules.{beyond, below-size, sound-of}
-use Rattle.ldc.proofs.Stores.Spans.{flat-append, reads-flat}
+use Rattle.ldc.proofs.Stores.Spans.{flat-append}
 use Rattle.ldc.specs.Layout.{linkCount, linkAt, itemsIn, levelCount}
 use Rattle.book.proofs.Rows.{link-of, count-of, noLink}
 use Rattle.book.specs.Rows.{shownBy}
-use Rattle.read.specs.Shown.{Tabled, Legible, Listed, Rising, Kept, newestIn, readsIn}
+use Rattle.read.specs.Shown.{Tabled, Legible, Listed, Rising, Kept}
 use Rattle.read.specs.Look.{Levels, lowerIn, tablesIn}
 use Rattle.read.proofs.Pieces.{bytes-shown, links-shown, length-fits, row-good, row-threshold, row-eight, level-items}
 
@@ -146,38 +146,41 @@ module _ (m : Lent) (k : Kept m) where
 
     -- ---- the read order
 
-    newest-same : (ps : List ℕ) → flat (map (table (storeOf m)) ps) ≡ flat (map (λ p. entries (placeOf (m .area) p)) ps)
+    newest-same : (ps : List ℕ) → map (table (storeOf m)) ps ≡ map (λ p. entries (placeOf (m .area) p)) ps
     unfolding table
     newest-same ps =
         elim ps [ [] ↦ refl | p ∷ (qs → ih) ↦ rw (bytes-shown m (sizes m (k .sizes) .area) p, ih) ]
 
     lower-same : (n : ℕ) → n < levelCount
-        → flat (flat (map (sources (storeOf m)) (level (storeOf m) n))) ≡ readsIn (shownBy (m .area) (m .cards)) (itemsIn (length (m .cards)) (m .lists) (m .head) n)
+        → flat (map (sources (storeOf m)) (level (storeOf m) n)) ≡ flat (map (sources (shownBy (m .area) (m .cards))) (itemsIn (length (m .cards)) (m .lists) (m .head) n))
     lower-same n h =
-        reads-flat (storeOf m) (level (storeOf m) n)
-        ∙ sym (reads-same (storeOf m) (shownBy (m .area) (m .cards)) (level (storeOf m) n) (λ p x. same-sources m p))
-        ∙ sym (reads-flat (shownBy (m .area) (m .cards)) (level (storeOf m) n))
-        ∙ rw (level-items m k n h)
+        let same : (ps : List ℕ) → flat (map (sources (storeOf m)) ps) ≡ flat (map (sources (shownBy (m .area) (m .cards))) ps) = λ ps.
+        elim ps [ [] ↦ refl | p ∷ (qs → ih) ↦ rw (sym (same-sources m p), ih) ] in
+        rw (level-items m k n h) (same (itemsIn (length (m .cards)) (m .lists) (m .head) n))
+
+    -- Source by source, and end to end.
+    pub order-sources : readOrder (storeOf m)
+        ≡ entries (m .memory)
+        ∷ map (λ p. entries (placeOf (m .area) p)) (reverse (itemsIn (length (m .cards)) (m .lists) (m .head) 0))
+        ++ (flat (map (sources (shownBy (m .area) (m .cards))) (itemsIn (length (m .cards)) (m .lists) (m .head) 1))
+        ++ (flat (map (sources (shownBy (m .area) (m .cards))) (itemsIn (length (m .cards)) (m .lists) (m .head) 2))
+        ++ flat (map (sources (shownBy (m .area) (m .cards))) (itemsIn (length (m .cards)) (m .lists) (m .head) 3))))
+    unfolding readOrder
+    order-sources =
+        let held : storeOf m .memory ≡ entries (m .memory) = unfold storeOf in refl in
+        let items : ℕ → List ℕ = itemsIn (length (m .cards)) (m .lists) (m .head) in
+        let upper : map (table (storeOf m)) (reverse (level (storeOf m) 0)) ≡ map (λ p. entries (placeOf (m .area) p)) (reverse (items 0)) =
+        newest-same (reverse (level (storeOf m) 0))
+        ∙ ap (λ (ps : List ℕ). map (λ p. entries (placeOf (m .area) p)) (reverse ps)) (level-items m k 0 (omega arith)) in
+        cc (lower-same 1 (omega arith), lower-same 2 (omega arith), lower-same 3 (omega arith))
 
     pub order-read : flat (readOrder (storeOf m)) ≡ entries (m .memory) ++ tablesIn (m .area) (m .cards) (m .lists) (m .head)
-    unfolding readOrder tablesIn lowerIn
+    unfolding tablesIn lowerIn
     order-read =
-        let s = storeOf m in
-        let z : List (List Entry) = map (table s) (reverse (level s 0)) in
-        let b : List (List Entry) = flat (map (sources s) (level s 1)) in
-        let c : List (List Entry) = flat (map (sources s) (level s 2)) in
-        let d : List (List Entry) = flat (map (sources s) (level s 3)) in
-        let held : s .memory ≡ entries (m .memory) = unfold storeOf in refl in
-        let upper : flat z ≡ newestIn (m .area) (itemsIn (length (m .cards)) (m .lists) (m .head) 0) =
-        newest-same (reverse (level s 0)) ∙ ap (λ (ps : List ℕ). newestIn (m .area) ps) (level-items m k 0 (omega arith)) in
-        rw (
-          flat-append z (b ++ (c ++ d)),
-          flat-append b (c ++ d),
-          flat-append c d,
-          upper,
-          lower-same 1 (omega arith),
-          lower-same 2 (omega arith),
-          lower-same 3 (omega arith),
-          held,
-          append-nil,
-        )
+        let s = shownBy (m .area) (m .cards) in
+        let items : ℕ → List ℕ = itemsIn (length (m .cards)) (m .lists) (m .head) in
+        let z : List (List Entry) = map (λ p. entries (placeOf (m .area) p)) (reverse (items 0)) in
+        let b : List (List Entry) = flat (map (sources s) (items 1)) in
+        let c : List (List Entry) = flat (map (sources s) (items 2)) in
+        let d : List (List Entry) = flat (map (sources s) (items 3)) in
+        ap flat order-sources ∙ rw (flat-append z (b ++ (c ++ d)), flat-append b (c ++ d), flat-append c d, append-nil)

@@ -12,6 +12,7 @@ use lib.ListN.{length, getD}
 use Rattle.coding.specs.Number.{Bytes}
 use Rattle.table.specs.Table.{entries, placeOf}
 use Rattle.table.specs.Search.{find, leastKey, greatestKey}
+use Rattle.table.proofs.Bounds.{find-below as find-before}
 use Rattle.table.proofs.Tests.{cases}
 use Rattle.ldc.specs.Lists.{flat}
 use Rattle.ldc.specs.Store.{Store, links, table, slice, sources, spanStart, spanEnd}
@@ -199,6 +200,15 @@ module _ (area : List ℕ) (cards : List (List ℕ)) (items : List ℕ) (b : Byt
         let here = rw e at (rank-here S k items (omega arith)) in
         at-rank (j - 1) e (omega arith) ∙ missed (omega arith) ∙ sym (nothing j h (inl (omega (arith, above, here)))))
         (λ q. at-rank j (omega (arith, ltb-false (rank S k items) j q)) h)
+
+    -- of which only the slices are read, where its least key is greater:
+    pub next-links : (j : ℕ) → j < length items → k < leastKey (entries (placeOf area (getD items j 0)))
+        → find k (flat (sources S (getD items j 0))) ≡ find k (flat (map (slice S) (reverse (links S (getD items j 0)))))
+    next-links j h above =
+        let p = getD items j 0 in
+        let own : find k (table S p) ≡ none =
+        find-before (table S p) 0 (2 ^ 64) k (readable area cards g p b (r .listed j h) .keys) (rw (table-shown area cards g p) above) in
+        sources-parts S k p ∙ ap (orElse (find k (flat (map (slice S) (reverse (links S p)))))) own ∙ orElse-none (find k (flat (map (slice S) (reverse (links S p)))))
 
     -- or nothing, where there is no next one.
     pub level-last : (j : ℕ) → length items ≤ j → rank S k items ≤ j → j ≤ suc (rank S k items) → (0 < j → find k (flat (sources S (getD items (j - 1) 0))) ≡ none)

@@ -5,6 +5,8 @@ use mathlib.Core.Bool.{true}
 use mathlib.Core.List.{List, [], _∷_}
 use native.Mathlib.Omega.{arith}
 use native.Mathlib.Numerals.{add-one}
+use borrow.Author.Tests.{leb-true, leb-false, le-leb, lt-leb}
+use lib.Dec.{leb}
 use lib.ListN.{length, getD, take, drop}
 use lib.Seq.{drop-cons}
 use Rattle.coding.specs.Number.{Bytes}
@@ -13,6 +15,7 @@ use Rattle.coding.proofs.Sets.{length-part}
 use Rattle.table.specs.Limits.{placeSize}
 use Rattle.table.specs.Table.{entries, isTable, isMemory, placeOf}
 use Rattle.table.specs.Valid.{Valid}
+use Rattle.table.proofs.Tests.{cases}
 use Rattle.table.proofs.Position.{table-memory, table-good}
 use Rattle.table.proofs.Encode.{shows-valid}
 use Rattle.table.proofs.Entries.{length-entries}
@@ -97,3 +100,17 @@ pub end-turn : (e : ℕ) (ls : List Link) (i : ℕ) (d : Link) → i < length ls
     → greatestEnd e (drop i ls) ≡ greatestEnd (max e (max (getD ls i d .low) (getD ls i d .high))) (drop (i + 1) ls)
 end-turn e ls i d h =
     rw (add-one i, drop-cons ls i d h) (sym (ends-max e (max (getD ls i d .low) (getD ls i d .high)) (drop (suc i) ls)))
+
+-- A link that ends below a key does not decide whether the span reaches it; one that does not, does.
+module _ (k e : ℕ) (ls : List Link) (i : ℕ) (d : Link) (h : i < length ls) where
+  pub reach-turn : max (getD ls i d .low) (getD ls i d .high) < k → leb k (greatestEnd e (drop i ls)) ≡ leb k (greatestEnd e (drop (i + 1) ls))
+  reach-turn b =
+      let rest : ℕ = greatestEnd e (drop (suc i) ls) in
+      let here : ℕ = max (getD ls i d .low) (getD ls i d .high) in
+      rw (add-one i, drop-cons ls i d h)
+      (cases (leb k rest)
+      (λ q. rw q (le-leb k (max here rest) (omega (arith, leb-true k rest q))))
+      (λ q. rw q (lt-leb k (max here rest) (omega (arith, leb-false k rest q)))))
+
+  pub reach-here : k ≤ max (getD ls i d .low) (getD ls i d .high) → leb k (greatestEnd e (drop i ls)) ≡ true
+  reach-here b = rw (drop-cons ls i d h) (le-leb k _ (omega arith))

@@ -1,14 +1,12 @@
 -- Where an entry was found: what stands there, and that it stands whole in its table.
 use Prim.Native.Nat.{ℕ, _+_, _*_, _≤_}
 use mathlib.Core.Path.{_≡_}
-use mathlib.Core.Bool.{Bool, true, false}
 use mathlib.Core.List.{List}
 use mathlib.Core.Option.{Option, some, none}
 use lib.ListN.{length}
 use Rattle.table.specs.Limits.{placeSize}
 use Rattle.table.specs.Entry.{Entry, entryAt}
 use Rattle.table.specs.Table.{placeOf, Seated}
-use Rattle.ldc.specs.Read.{holdsValue}
 use Rattle.book.specs.Pieces.{Words}
 use Rattle.read.specs.declared.found.Hit.{Hit}
 use Rattle.read.specs.declared.found.Hit.the-variants.{At, Nothing}
@@ -49,29 +47,7 @@ pub record Spots (area memory : List ℕ) (sought : Option Entry) (s : Spot) : T
   pub shown : spotEntry area memory s ≡ sought
   pub seated : SeatedSpot area memory s
 
--- What may be read at a spot: an entry that stands whole.
-pub record Standing (area memory : List ℕ) (s : Spot) : Type 0 where
-  pub long : length memory ≡ placeSize
-  pub seated : SeatedSpot area memory s
-
--- Is this a spot where an entry stands?
-abbrev pub isThere : Spot → Bool
-isThere (spot.Memory at) = true
-isThere (spot.Place p at) = true
-isThere spot.Nothing = false
-
--- Is this an entry that holds a value?
-abbrev pub valued : Option Entry → Bool
-valued none = false
-valued (some e) = holdsValue e
-
 -- ---- the same over the parameters of a call, at its entry
-
-abbrev pub hitIn : (area : Words) → Hit → Option Entry
-hitIn area h = hitEntry (area .entry .now) h
-
-abbrev pub spotIn : (area memory : Words) → Spot → Option Entry
-spotIn area memory s = spotEntry (area .entry .now) (memory .entry .now) s
 
 abbrev pub HitsIn : (area : Words) → (sought : Option Entry) → Hit → Type 0
 HitsIn area sought h = Hits (area .entry .now) sought h

@@ -1,9 +1,11 @@
-// One level below 0: where a table's span ends, and how many tables a key has reached or passed.
+// One level below 0: where a table's span ends, whether it reaches a key, and how many tables a key has reached or passed.
 ghost use mathlib.Core.Path.{_≡_};
-ghost use Prim.Native.Nat.{_+_, _≤_};
-ghost use lib.ListN.{length};
+ghost use Prim.Native.Nat.{_+_, _≤_, _<_};
+ghost use lib.Dec.{leb};
+ghost use lib.ListN.{length, getD};
+ghost use Rattle.table.specs.Search.{leastKey};
 ghost use Rattle.ldc.specs.Store.{spanEnd};
-ghost use Rattle.read.specs.Shown.{shownIn, Tabled, Legible, Rising};
+ghost use Rattle.read.specs.Shown.{shownIn, Tabled, Legible, Rising, tableIn};
 ghost use Rattle.read.specs.Level.{rank};
 use super::place;
 use book::row;
@@ -28,13 +30,33 @@ pub fn span_end(area: &[u8], cards: &[Row], p: usize) -> Key
     end
 }
 
-// How many tables have a least key of at most this one: as many as it has passed, or one more, whose span may reach it.
+// Does a table's span reach up to a key, or beyond it? Its links are asked first: its own greatest key is behind all other entries.
+pub fn reaches(area: &[u8], cards: &[Row], p: usize, key: Key) -> bool
+    requires { ⌜ Legible (now area) (now cards) × Tabled (now area) p ⌝ }
+    ensures { λ r. ⌜ r ≡ leb (key .value) (spanEnd (shownIn area cards) p) ⌝ }
+{
+    let n = row::link_count(&cards[p]) as usize;
+    let mut i = 0;
+    while i < n {
+        let link = row::link_at(&cards[p], i);
+        let low = link.low;
+        if key.at_most(low.greater(link.high)) {
+            return true;
+        }
+        i += 1;
+    }
+    key.at_most(place::greatest(area, p))
+}
+
+// How many tables have a least key of at most this one: as many as it has passed, or one more, whose span may reach it. The next has a
+// greater one.
 pub fn count_reached(area: &[u8], cards: &[Row], items: &[u16], key: Key) -> usize
     requires { ⌜ Legible (now area) (now cards) × Rising (now area) (now cards) (now items) ⌝ }
     ensures { λ r. ⌜
         (r ≤ length (now (items .entry)))
         × ((rank (shownIn area cards) (key .value) (now (items .entry)) ≤ r)
-        × (r ≤ rank (shownIn area cards) (key .value) (now (items .entry)) + 1))
+        × ((r ≤ rank (shownIn area cards) (key .value) (now (items .entry)) + 1)
+        × (r < length (now (items .entry)) → key .value < leastKey (tableIn area (getD (now (items .entry)) r 0)))))
         ⌝ }
 {
     let mut low = 0;
@@ -60,9 +82,9 @@ pub fn count_passed(area: &[u8], cards: &[Row], items: &[u16], key: Key) -> usiz
         return 0;
     }
     let last = end - 1;
-    if span_end(area, cards, items[last] as usize).below(key) {
-        end
-    } else {
+    if reaches(area, cards, items[last] as usize, key) {
         last
+    } else {
+        end
     }
 }

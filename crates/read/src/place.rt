@@ -3,9 +3,9 @@ ghost use mathlib.Core.Path.{_≡_};
 ghost use Prim.Native.Nat.{_+_, _*_, _≤_};
 ghost use lib.ListN.{length};
 ghost use Rattle.table.specs.Limits.{placeSize, entryHead};
-ghost use Rattle.table.specs.Entry.{kindAt, keyAt};
+ghost use Rattle.table.specs.Entry.{keyAt};
 ghost use Rattle.table.specs.Table.{entries, placeOf};
-ghost use Rattle.table.specs.Search.{findIn, leastKey, greatestKey};
+ghost use Rattle.table.specs.Search.{findIn, seekIn, leastKey, greatestKey};
 ghost use Rattle.ldc.specs.Store.{within};
 ghost use Rattle.read.specs.Shown.{Tabled};
 use book::place::bytes_of;
@@ -20,6 +20,14 @@ pub fn find(area: &[u8], p: usize, key: Key) -> Found
     ensures { λ r. ⌜ r ≡ findIn (placeOf (now (area .entry)) p) (key .value) ⌝ }
 {
     search::find(bytes_of(area, p), key)
+}
+
+// The first entry from a key on.
+pub fn seek(area: &[u8], p: usize, key: Key) -> Found
+    requires { ⌜ Tabled (now area) p ⌝ }
+    ensures { λ r. ⌜ r ≡ seekIn (placeOf (now (area .entry)) p) (key .value) ⌝ }
+{
+    search::seek(bytes_of(area, p), key)
 }
 
 // The least key.
@@ -52,14 +60,6 @@ pub fn count_within(area: &[u8], p: usize, low: Key, high: Key) -> usize
     ensures { λ r. ⌜ r ≡ length (within (low .value) (high .value) (entries (placeOf (now (area .entry)) p))) ⌝ }
 {
     search::count_within(bytes_of(area, p), low, high)
-}
-
-// The kind of the entry at a position.
-pub fn kind(area: &[u8], p: usize, at: usize) -> u16
-    requires { ⌜ (p * placeSize + placeSize ≤ length (now area)) × (at + 4 ≤ placeSize) ⌝ }
-    ensures { λ r. ⌜ r ≡ kindAt (placeOf (now (area .entry)) p) at ⌝ }
-{
-    entry::kind_at(bytes_of(area, p), at)
 }
 
 // The key of the entry at a position.

@@ -8,7 +8,7 @@ use coding::key::Key;
 use read::found::Hit;
 use read::level;
 
-// In the tables of a level and their links: in the last one with a least key of at most this, and then in the next, whose links may reach it.
+// In the tables of a level and their links: in the last one with a least key of at most this, and then in the links of the next, which may reach it.
 pub fn find_in_level(area: &[u8], cards: &[Row], items: &[u16], key: Key) -> Hit
     requires { ⌜ Legible (now area) (now cards) × Rising (now area) (now cards) (now items) ⌝ }
     ensures { λ r. ⌜
@@ -24,7 +24,7 @@ pub fn find_in_level(area: &[u8], cards: &[Row], items: &[u16], key: Key) -> Hit
         }
     }
     if end < items.len() {
-        tables::find_in_sources(area, cards, items[end] as usize, key)
+        tables::find_in_links(area, cards, items[end] as usize, key)
     } else {
         Hit::Nothing
     }

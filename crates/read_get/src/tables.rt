@@ -44,7 +44,7 @@ fn find_in_slice(area: &[u8], link: Link, key: Key) -> Hit
 }
 
 // In a table's links, newest first.
-fn find_in_links(area: &[u8], cards: &[Row], p: usize, key: Key) -> Hit
+pub fn find_in_links(area: &[u8], cards: &[Row], p: usize, key: Key) -> Hit
     requires { ⌜ Legible (now area) (now cards) × (p < length (now cards)) ⌝ }
     ensures { λ r. ⌜
         HitsIn area

@@ -1,37 +1,61 @@
-// The values of a store one after the other, keys rising: the next one from a key on, and its entry copied.
-//
-// Each turn asks for the nearest entry from a point on, which decides on its key, so the cost follows the values given and the delete marks
-// passed.
+// The values of a store from a key on, keys rising: as many as two arrays have room for.
 ghost use mathlib.Core.Path.{_≡_};
-ghost use Prim.Native.Nat.{_+_, _≤_};
-ghost use lib.ListN.{length};
-ghost use lib.Seq.{sets};
-ghost use Rattle.table.specs.Limits.{entryLimit};
+ghost use mathlib.Core.List.{_++_};
+ghost use Prim.Native.Nat.{_≤_, _<_};
+ghost use lib.ListN.{length, take};
 ghost use Rattle.ldc.specs.Store.{within};
 ghost use Rattle.ldc.specs.Lent.{storeOf};
 ghost use Rattle.ldc.specs.Read.{contents};
 ghost use Rattle.book.specs.Pieces.{given, held};
 ghost use Rattle.read.specs.Shown.{Readable};
-ghost use Rattle.read.specs.Found.{spotIn, Standing};
-ghost use Rattle.read_iterator.specs.Next.{maybeBytes, NextsIn};
-ghost use Rattle.read_seek.specs.Least.{firstEntry};
+ghost use Rattle.read_gather.specs.Gathered.{AllSeated};
+ghost use Rattle.read_iterator.specs.Spots.{Whole};
+ghost use Rattle.read_iterator.specs.Values.{Sifted, HoldFirst};
 use book::head::Head;
-use book::place::bytes_of;
 use book::row::Row;
 use coding::key::Key;
-use read::found;
-use read::found::Spot;
-use read_seek::seek;
-use table_builder::append;
+use read_gather::level;
+use read_gather::store;
 
-// Where the next value stands, and its key.
-pub struct Next {
-    pub spot: Spot,
-    pub key: Key,
+pub mod spot;
+
+// Moves the values among the entries from one on to the front, past the delete marks; how many entries are then in use.
+fn keep_values(
+    area: &[u8],
+    memory: &[u8],
+    keys: &mut [u64],
+    spots: &mut [u64],
+    from: usize,
+    n: usize,
+) -> usize
+    requires { ⌜
+        Whole (now area) (now memory)
+        × ((from ≤ n)
+        × ((n ≤ length (now keys))
+        × ((length (now spots) ≡ length (now keys)) × AllSeated (now area ++ now memory) (take n (now spots)))))
+        ⌝ }
+    ensures { λ r. ⌜
+        Sifted (now (area .entry) ++ now (memory .entry)) (now (keys .entry)) (now (spots .entry)) from n
+        (now (keys .exit)) (now (spots .exit)) r
+        ⌝ }
+{
+    let mut kept = from;
+    let mut i = from;
+    while i < n {
+        let at = spots[i];
+        keys[kept] = keys[i];
+        spots[kept] = at;
+        if spot::is_value(area, memory, at as usize) {
+            kept += 1;
+        }
+        i += 1;
+    }
+    kept
 }
 
-// The first value from a key on, up to another.
-pub fn next_value(
+// Gathers the values from a key on, up to another, in the arrays: the first ones, as many as there is room for; how many they are. Where
+// delete marks take room, it goes on behind the last key.
+pub fn next_values(
     area: &[u8],
     cards: &[Row],
     lists: &[u16],
@@ -39,62 +63,45 @@ pub fn next_value(
     memory: &[u8],
     from: Key,
     high: Key,
-) -> Next
-    requires { ⌜ Readable (given area cards lists head memory) ⌝ }
-    ensures { λ r. ⌜
-        NextsIn area memory
-        (firstEntry (within (from .value) (high .value) (contents (storeOf (held area cards lists head memory)))))
-        r
-        ⌝ }
-{
-    let mut k = from.value;
-    let last = high.value;
-    while k <= last {
-        let spot = seek::nearest(area, cards, lists, head, memory, Key { value: k });
-        if !found::holds_entry(spot) {
-            return Next {
-                spot: Spot::Nothing,
-                key: high,
-            };
-        }
-        let key = found::key_of(area, memory, spot);
-        let at = key.value;
-        if last < at {
-            return Next {
-                spot: Spot::Nothing,
-                key: high,
-            };
-        }
-        if found::is_value(area, memory, spot) {
-            return Next { spot, key };
-        }
-        if at == last {
-            return Next {
-                spot: Spot::Nothing,
-                key: high,
-            };
-        }
-        k = at + 1;
-    }
-    Next {
-        spot: Spot::Nothing,
-        key: high,
-    }
-}
-
-// Copies the entry at a spot into the answer, and gives its length.
-pub fn copy_spot(area: &[u8], memory: &[u8], spot: Spot, answer: &mut [u8], at: usize) -> usize
+    keys: &mut [u64],
+    spots: &mut [u64],
+) -> usize
     requires { ⌜
-        Standing (now area) (now memory) spot × (at + entryLimit ≤ length (now answer))
+        Readable (given area cards lists head memory)
+        × ((0 < length (now keys)) × (length (now spots) ≡ length (now keys)))
         ⌝ }
     ensures { λ r. ⌜
-        (now (answer .exit) ≡ sets (now (answer .entry)) at (maybeBytes (spotIn area memory spot)))
-        × ((r ≡ length (maybeBytes (spotIn area memory spot))) × (r ≤ entryLimit))
+        HoldFirst area memory keys spots r
+        (within (from .value) (high .value) (contents (storeOf (held area cards lists head memory))))
         ⌝ }
 {
-    match spot {
-        Spot::Memory(from) => append::copy_entry(memory, from, answer, at),
-        Spot::Place(p, from) => append::copy_entry(bytes_of(area, p), from, answer, at),
-        Spot::Nothing => 0,
+    let mut kept = 0;
+    let mut low = from.value;
+    let last = high.value;
+    while low <= last {
+        let start = Key { value: low };
+        let used = store::in_store(
+            area,
+            cards,
+            lists,
+            head,
+            memory,
+            start,
+            high,
+            keys,
+            spots,
+            kept,
+        );
+        let end = level::up_to(keys, used, high);
+        kept = keep_values(area, memory, keys, spots, kept, used);
+        if keys.len() <= kept {
+            return kept;
+        }
+        let at = end.value;
+        if last <= at {
+            return kept;
+        }
+        low = at + 1;
     }
+    kept
 }

@@ -1,10 +1,10 @@
 -- What serving a request of each kind comes to. The kind is put into the definition's cases, which then compute.
 use Prim.Native.Nat.{ℕ, _+_, _≤_}
-use mathlib.Core.Path.{_≡_, refl, _∙_}
+use mathlib.Core.Path.{_≡_, refl, sym, _∙_}
 use mathlib.Core.Bool.{Bool, true, false, cond, true≢false}
 use mathlib.Core.List.{List}
 use native.Mathlib.Omega.{arith}
-use borrow.Author.Tests.{le-leb, lt-leb, leb-true, eqb-true, eqb-false}
+use borrow.Author.Tests.{le-leb, lt-leb, leb-true, eqb-true, eqb-false, ne-eqb}
 use lib.Dec.{leb, eqb}
 use lib.ListN.{length}
 use Rattle.table.specs.Entry.{entryOf, entryForm}
@@ -18,7 +18,9 @@ use Rattle.ldc.specs.Read.{serveLookUp, serveScan, serveReport}
 use Rattle.ldc.specs.Steps.{serveTidy}
 use Rattle.ldc.specs.Serve.{serveKind, serve}
 use Rattle.ldc.proofs.Basics.Cases.{cases}
-use Rattle.serve_write.specs.Turn.{request}
+use Rattle.compact_pick.specs.Calm.{calmAfter}
+use Rattle.compact_pick.specs.Plan.{planOf}
+use Rattle.serve_write.specs.Turn.{request, suspectAfter}
 
 -- The test of the code before it looks at the kind.
 abbrev pub good : (kind len : ℕ) → Bool
@@ -110,3 +112,26 @@ module _ (s : Store) (kind : ℕ) (body : List ℕ) where
   serve-put low high g =
       serve-good low (omega arith) g
       ∙ cases (eqb kind 2) (λ q. rw (eqb-true kind 2 q)) (λ q. let e : kind ≡ 1 = omega (arith, eqb-false kind 2 q) in rw e)
+
+pub known-six : (kind : ℕ) → kind ≡ 6 → known kind ≡ false → ⊥
+known-six kind e h = true≢false (sym (known-of kind (omega arith) (omega arith)) ∙ h)
+
+-- The level that can have due merges: only a tidy that is served changes it.
+module _ (on : ℕ) (s : Store) (kind : ℕ) (body : List ℕ) where
+  pub after-other : (kind ≡ 6 → ⊥) → on ≡ suspectAfter on s (request kind body)
+  unfolding suspectAfter
+  after-other h = rw (ne-eqb kind 6 h)
+
+  pub after-misfit : good kind (length body) ≡ false → on ≡ suspectAfter on s (request kind body)
+  unfolding suspectAfter
+  after-misfit h =
+      cases (eqb kind 6)
+      (λ q. let e = eqb-true kind 6 q in
+      let k = known-of kind (omega arith) (omega arith) in
+      let f : bodyGood kind (length body) ≡ false = rw k at h in
+      rw (q, f))
+      (λ q. rw q)
+
+  pub after-tidy : kind ≡ 6 → good kind (length body) ≡ true → calmAfter on (planOf s) ≡ suspectAfter on s (request kind body)
+  unfolding suspectAfter
+  after-tidy e g = rw (fits kind body (omega arith) (omega arith) g, e)

@@ -2,9 +2,11 @@
 //
 // The reply is written into the answer buffer from a position on; the caller has seen to room for the longest.
 ghost use mathlib.Core.Path.{_≡_};
+ghost use Rattle.ldc.specs.Lent.{storeOf};
 ghost use Rattle.book.specs.Pieces.{given, held, left};
+ghost use Rattle.compact_pick.specs.Calm.{CalmBut};
 ghost use Rattle.read.specs.Shown.{Writable};
-ghost use Rattle.serve_write.specs.Turn.{turn, turnedBy, request};
+ghost use Rattle.serve_write.specs.Turn.{turn, turnedBy, request, suspectAfter};
 ghost use Rattle.wire.specs.Reply.{Room};
 use book::head::Head;
 use book::row::Row;
@@ -19,39 +21,47 @@ use wire::kinds;
 use wire::reply;
 use wire::results;
 
-// Serves one request of a kept store and writes its reply from a position on.
+// Serves one request of a kept store and writes its reply from a position on. `suspect` is the level that can have due merges.
 pub fn serve(
     area: &mut [u8],
     cards: &mut [Row],
     lists: &mut [u16],
     head: Head,
+    suspect: usize,
     memory: &mut [u8],
     kind: u16,
     body: &[u8],
     answer: &mut [u8],
     at: usize,
 ) -> Turn
-    requires { ⌜ Writable (given area cards lists head memory) × Room (now answer) at ⌝ }
+    requires { ⌜
+        Writable (given area cards lists head memory)
+        × (Room (now answer) at × CalmBut suspect (storeOf (given area cards lists head memory)))
+        ⌝ }
     ensures { λ r. ⌜
-        turn (left area cards lists (r .head) memory) (now (answer .exit)) (r .written)
-        ≡ turnedBy (held area cards lists head memory) (request kind (now (body .entry))) (now (answer .entry)) at
+        (turn (left area cards lists (r .head) memory) (now (answer .exit)) (r .written)
+        ≡ turnedBy (held area cards lists head memory) (request kind (now (body .entry))) (now (answer .entry)) at)
+        × (r .suspect ≡ suspectAfter suspect (storeOf (held area cards lists head memory)) (request kind (now (body .entry))))
         ⌝ }
 {
     if !body::is_good(kind, body.len()) {
         return Turn {
             head,
+            suspect,
             written: reply::answer_bare(answer, at, kind, results::WRONG_LENGTH),
         };
     }
     match kind {
         kinds::PUT | kinds::DELETE => Turn {
             head,
+            suspect,
             written: put::put(memory, kind, body, answer, at),
         },
         kinds::LOOK_UP => {
             let key = body::key_at(body, 0);
             Turn {
                 head,
+                suspect,
                 written: look_up::look_up_reply(area, cards, lists, head, memory, key, answer, at),
             }
         }
@@ -60,17 +70,22 @@ pub fn serve(
             let high = body::key_at(body, body::KEY);
             Turn {
                 head,
+                suspect,
                 written: scan::scan_reply(area, cards, lists, head, memory, low, high, answer, at),
             }
         }
-        kinds::FLUSH => steps::flush_reply(area, cards, lists, head, memory, answer, at),
-        kinds::TIDY => steps::tidy_reply(area, cards, lists, head, memory, answer, at),
+        kinds::FLUSH => {
+            steps::flush_reply(area, cards, lists, head, suspect, memory, answer, at)
+        }
+        kinds::TIDY => { steps::tidy_reply(area, cards, lists, head, suspect, memory, answer, at) }
         kinds::REPORT => Turn {
             head,
+            suspect,
             written: report::report_reply(cards, head, memory, answer, at),
         },
         kinds::NO_KIND | kinds::FIRST_UNKNOWN..=kinds::LAST_UNKNOWN => Turn {
             head,
+            suspect,
             written: reply::answer_bare(answer, at, kind, results::UNKNOWN_KIND),
         },
     }

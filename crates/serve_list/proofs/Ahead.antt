@@ -1,5 +1,6 @@
 -- A list of requests, served one at a time. `Goes` holds between two requests: what a run of the whole list leaves is what is left when the
--- rest is served from here on. One more request takes the first of the rest, and keeps memory sound.
+-- rest is served from here on. One more request takes the first of the rest, and keeps memory sound and
+-- the level right on which alone merges can be due.
 use Prim.Native.Nat.{ℕ, _+_, _-_, _≤_, _<_}
 use mathlib.Core.Path.{_≡_, refl, sym, _∙_, ap}
 use mathlib.Core.Bool.{true, true≢false}
@@ -33,8 +34,11 @@ use Rattle.ldc.specs.Facts.{Shape}
 use Rattle.read.specs.Shown.{Kept}
 use Rattle.wire.specs.Rest.{rest}
 use Rattle.wire.proofs.Splits.{whole-fits, rest-all, rest-long, rest-end, rest-turn, rest-broken, some-map}
-use Rattle.serve_write.specs.Turn.{Turned, turn, turned, turnedBy}
+use Rattle.ldc.specs.Layout.{levelCount}
+use Rattle.compact_pick.specs.Calm.{CalmBut}
+use Rattle.serve_write.specs.Turn.{Turned, turn, turned, turnedBy, suspectAfter}
 use Rattle.serve_list.specs.Ran.{ran, requestsOf}
+use Rattle.serve_list.proofs.Calms.{calm-keeps}
 
 ran-same : {n n′ w w′ : ℕ} {m m′ : Lent} {a a′ : List ℕ} → n ≡ n′ → w ≡ w′ → m ≡ m′ → a ≡ a′ → ran 0 n w m a ≡ ran 0 n′ w′ m′ a′
 ran-same {n′ = n′} {w = w} {w′ = w′} {m = m} {m′ = m′} {a = a} en ew em ea =
@@ -49,9 +53,10 @@ abbrev behind : (served written : ℕ) → (answer : List ℕ) → ServedAll →
 behind served written answer a =
     ran 0 (served + a .served) (written + length (a .bytes)) (lentOf (a .store)) (sets answer written (a .bytes))
 
-pub record Goes (m₀ : Lent) (list answer₀ : List ℕ) (m : Lent) (answer : List ℕ) (at served written : ℕ) : Type 0 where
+pub record Goes (m₀ : Lent) (list answer₀ : List ℕ) (m : Lent) (answer : List ℕ) (suspect at served written : ℕ) : Type 0 where
   pub shape : Shape m
   pub kept : Kept m
+  pub calm : CalmBut suspect (storeOf m)
   pub listed : isSome (rest list at) ≡ true
   pub within : at ≤ length list
   pub counted : served ≤ at
@@ -66,12 +71,13 @@ split-rest list h =
     cases (leb (length list) listLimit) (λ q. rest-all list (leb-true (length list) listLimit q))
     (λ q. absurd (true≢false (sym h ∙ ap isSome (rest-long list (leb-false (length list) listLimit q)))))
 
-pub goes-start : (m : Lent) (list answer : List ℕ) → Shape m → Kept m → isSome (split list) ≡ true → Goes m list answer m answer 0 0 0
+pub goes-start : (m : Lent) (list answer : List ℕ) → Shape m → Kept m → isSome (split list) ≡ true → Goes m list answer m answer levelCount 0 0 0
 goes-start m list answer sh k h =
     let e = split-rest list h in
     record {
       shape = sh;
       kept = k;
+      calm = λ h. absurd (omega arith);
       listed = ap isSome (sym e) ∙ h;
       within = omega arith;
       counted = omega arith;
@@ -88,7 +94,7 @@ getD-more : (r : Request) (o : Option (List Request)) → isSome o ≡ true → 
 getD-more r none h = absurd (true≢false (sym h))
 getD-more r (some rs) h = refl
 
-module _ {m₀ : Lent} {list answer₀ : List ℕ} {m : Lent} {answer : List ℕ} {at served written : ℕ} (g : Goes m₀ list answer₀ m answer at served written) (inside : at < length list) where
+module _ {m₀ : Lent} {list answer₀ : List ℕ} {m : Lent} {answer : List ℕ} {suspect at served written : ℕ} (g : Goes m₀ list answer₀ m answer suspect at served written) (inside : at < length list) where
   -- A request stands there.
   pub whole-there : wholeAt list at ≡ true
   whole-there =
@@ -163,13 +169,14 @@ module _ {m₀ : Lent} {list answer₀ : List ℕ} {m : Lent} {answer : List ℕ
           ∙ ap (λ (x : ℕ). sets (sets answer written reply) (written + x) (rest-of .bytes)) long
           ∙ sym (sets-append answer written reply (rest-of .bytes)))
 
-      pub goes-on : Goes m₀ list answer₀ m′ answer′ (at + lengthAt list at) (served + 1) (written + w)
-      goes-on =
+      pub goes-on : (on : ℕ) → on ≡ suspectAfter suspect s (requestAt list at) → Goes m₀ list answer₀ m′ answer′ on (at + lengthAt list at) (served + 1) (written + w)
+      goes-on on told =
           let f = whole-fits list at whole-there in
           let short = reply-short s sound (requestAt list at) in
           record {
             shape = shape′;
             kept = rw left (record { sizes = sizes-lentOf (v .store) sound′ whole′; unbroken = kept-lentOf (v .store) sound′ whole′ });
+            calm = rw (told, store′) (calm-keeps s sound suspect (requestAt list at) (g .calm));
             listed = more;
             within = f .1 .1;
             counted = omega (arith, g .counted, f .1 .0);
@@ -182,7 +189,7 @@ module _ {m₀ : Lent} {list answer₀ : List ℕ} {m : Lent} {answer : List ℕ
 
 -- ---- the end
 
-module _ {m₀ : Lent} {list answer₀ : List ℕ} {m : Lent} {answer : List ℕ} {at served written : ℕ} (g : Goes m₀ list answer₀ m answer at served written) where
+module _ {m₀ : Lent} {list answer₀ : List ℕ} {m : Lent} {answer : List ℕ} {suspect at served written : ℕ} (g : Goes m₀ list answer₀ m answer suspect at served written) where
   same : lentOf (storeOf m) ≡ m
   same = lentOf-storeOf m (g .shape) (g .kept .sizes) (g .kept .unbroken)
 

@@ -21,7 +21,8 @@ pub struct Reached {
     pub written: usize,
 }
 
-// Serves the requests of a list in order, as long as there is room for the longest reply.
+// Serves the requests of a list in order, as long as there is room for the longest reply. At its start any level may have due merges; which
+// one alone can have them then is remembered from request to request.
 pub fn serve_all(
     area: &mut [u8],
     cards: &mut [Row],
@@ -43,6 +44,7 @@ pub fn serve_all(
         ⌝ }
 {
     let mut reached = head;
+    let mut suspect = compact_pick::ANY_LEVEL;
     let mut at = 0;
     let mut served = 0;
     let mut written = 0;
@@ -59,6 +61,7 @@ pub fn serve_all(
             cards,
             lists,
             reached,
+            suspect,
             memory,
             list,
             at,
@@ -66,6 +69,7 @@ pub fn serve_all(
             written,
         );
         reached = turn.head;
+        suspect = turn.suspect;
         written += turn.written;
         served += 1;
         at += entry::length_at(list, at) as usize;

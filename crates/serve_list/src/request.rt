@@ -2,9 +2,11 @@
 ghost use mathlib.Core.Path.{_≡_};
 ghost use mathlib.Core.Bool.{true};
 ghost use Rattle.ldc.specs.Run.{requestAt, wholeAt};
+ghost use Rattle.ldc.specs.Lent.{storeOf};
 ghost use Rattle.book.specs.Pieces.{given, held, left};
+ghost use Rattle.compact_pick.specs.Calm.{CalmBut};
 ghost use Rattle.read.specs.Shown.{Writable};
-ghost use Rattle.serve_write.specs.Turn.{turn, turnedBy};
+ghost use Rattle.serve_write.specs.Turn.{turn, turnedBy, suspectAfter};
 ghost use Rattle.wire.specs.Reply.{Room};
 use book::head::Head;
 use book::row::Row;
@@ -18,6 +20,7 @@ pub fn serve_next(
     cards: &mut [Row],
     lists: &mut [u16],
     head: Head,
+    suspect: usize,
     memory: &mut [u8],
     list: &[u8],
     at: usize,
@@ -26,11 +29,13 @@ pub fn serve_next(
 ) -> Turn
     requires { ⌜
         Writable (given area cards lists head memory)
-        × ((wholeAt (now list) at ≡ true) × Room (now answer) written)
+        × ((wholeAt (now list) at ≡ true)
+        × (Room (now answer) written × CalmBut suspect (storeOf (given area cards lists head memory))))
         ⌝ }
     ensures { λ r. ⌜
-        turn (left area cards lists (r .head) memory) (now (answer .exit)) (r .written)
-        ≡ turnedBy (held area cards lists head memory) (requestAt (now (list .entry)) at) (now (answer .entry)) written
+        (turn (left area cards lists (r .head) memory) (now (answer .exit)) (r .written)
+        ≡ turnedBy (held area cards lists head memory) (requestAt (now (list .entry)) at) (now (answer .entry)) written)
+        × (r .suspect ≡ suspectAfter suspect (storeOf (held area cards lists head memory)) (requestAt (now (list .entry)) at))
         ⌝ }
 {
     let kind = entry::kind_at(list, at);
@@ -41,6 +46,7 @@ pub fn serve_next(
         cards,
         lists,
         head,
+        suspect,
         memory,
         kind,
         &list[start..end],

@@ -1,6 +1,6 @@
 -- The laws of `serve_read`.
 --   Decided   the reply to a look-up, by the entry that decides
---   Fills     a run of values of a range
+--   Fills     values written one behind the other
 --   Reply     the reply to a scan
 --   Turn      one turn of the loop that counts cards
 --   Counted   the counts of the report

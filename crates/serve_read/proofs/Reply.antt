@@ -1,13 +1,13 @@
 -- The reply to a scan: what is written, entries first and the head last, is the reply that the definition gives.
-use Prim.Native.Nat.{ℕ, _+_, _*_, _-_, _≤_, _<_}
+use Prim.Native.Nat.{ℕ, suc, _+_, _*_, _-_, _≤_, _<_, min}
 use mathlib.Core.Path.{_≡_, sym, _∙_, ap}
 use mathlib.Core.Bool.{cond}
 use mathlib.Core.List.{List, [], _∷_, _++_, append-nil, append-assoc}
 use native.Mathlib.Omega.{arith}
-use borrow.Author.Tests.{lt-ltb, le-ltb}
+use borrow.Author.Tests.{lt-ltb, le-ltb, ltb-true, ltb-false}
 use lib.Dec.{ltb}
-use lib.ListN.{length, take, drop, length-append, length-drop, length-take}
-use lib.Seq.{sets}
+use lib.ListN.{length, take, length-append, length-take}
+use lib.Seq.{sets, take-all, take-take}
 use Rattle.coding.specs.Number.{bytesOf}
 use Rattle.coding.proofs.NumberLaws.{length-bytesOf}
 use Rattle.coding.proofs.Sets.{sets-append, sets-comm}
@@ -15,21 +15,44 @@ use Rattle.table.specs.Entry.{Entry}
 use Rattle.table.specs.Table.{entriesBytes}
 use Rattle.table.proofs.Decode.{entries-short}
 use Rattle.table.specs.Limits.{entryLimit}
-use Rattle.ldc.specs.Lists.{isEmpty}
 use Rattle.ldc.specs.Store.{Store, within}
 use Rattle.ldc.specs.Request.{replyBytes}
 use Rattle.ldc.specs.Read.{contents, scanLimit, scanBody, serveScan}
+use Rattle.ldc.proofs.Basics.Cases.{cases}
 use Rattle.ldc.proofs.Entries.Keys.{values-keep, values-take}
 use Rattle.ldc.proofs.Stores.Sound.{Sound}
 use Rattle.ldc.proofs.Serving.Replies.{length-reply, contents-values}
+use Rattle.read_gather.specs.Gathered.{Gathers}
+use Rattle.read_gather.proofs.Narrow.{gathered-long}
+use Rattle.read_iterator.proofs.Sifting.{gathers-take}
 use Rattle.wire.specs.Reply.{replied, replyHead, numbers, Written}
 use Rattle.wire.proofs.Written.{reply-written, length-head}
 
--- ---- more
+-- ---- what was found
 
-pub more-told : (W rest : List Entry) → drop scanLimit W ≡ rest → _≡_ {A = ℕ} (cond (ltb scanLimit (length W)) 1 0) (cond (isEmpty rest) 0 1)
-more-told W [] h = rw (le-ltb scanLimit (length W) (omega (arith, ap length h, length-drop scanLimit W)))
-more-told W (e ∷ rest) h = rw (lt-ltb scanLimit (length W) (omega (arith, ap length h, length-drop scanLimit W)))
+-- Room for one more than a scan gives: those that it gives, and whether there are more.
+module _ (bytes keys spots : List ℕ) (found : ℕ) (W : List Entry) (g : Gathers bytes keys spots found (take (suc scanLimit) W)) where
+  counted : found ≡ min (suc scanLimit) (length W)
+  counted = sym (gathered-long bytes keys spots found (take (suc scanLimit) W) g) ∙ length-take (suc scanLimit) W
+
+  pub more-told : _≡_ {A = ℕ} (cond (ltb scanLimit found) 1 0) (cond (ltb scanLimit (length W)) 1 0)
+  more-told =
+      cases (ltb scanLimit (length W))
+      (λ q. rw (q, lt-ltb scanLimit found (omega (arith, counted, ltb-true scanLimit (length W) q))))
+      (λ q. rw (q, le-ltb scanLimit found (omega (arith, counted, ltb-false scanLimit (length W) q))))
+
+  module _ (n : ℕ) (e : n ≡ min found scanLimit) where
+    pub given-many : n ≡ length (take scanLimit W)
+    given-many = omega (arith, counted, length-take scanLimit W)
+
+    pub given-first : Gathers bytes keys spots n (take scanLimit W)
+    given-first =
+        let same : take n (take (suc scanLimit) W) ≡ take scanLimit W =
+        take-take n (suc scanLimit) W (omega arith)
+        ∙ cases (ltb scanLimit (length W))
+        (λ q. ap (λ (m : ℕ). take m W) (let h : n ≡ scanLimit = omega (arith, counted, ltb-true scanLimit (length W) q) in h))
+        (λ q. take-all n W (omega (arith, counted, ltb-false scanLimit (length W) q)) ∙ sym (take-all scanLimit W (ltb-false scanLimit (length W) q))) in
+        rw (← same) (gathers-take bytes keys spots found (take (suc scanLimit) W) g n (omega arith))
 
 -- ---- the reply
 

@@ -1,17 +1,15 @@
--- The entries that a place shows, by index: how many, also of a range, the i-th, the first and the last. By induction along `entriesAt`.
-use Prim.Native.Nat.{ℕ, zero, suc, _+_, _-_, _≤_, _<_}
+-- The entries that a place shows, by index: how many, the i-th, the first and the last. By induction along `entriesAt`.
+use Prim.Native.Nat.{ℕ, zero, suc, _+_, _-_, _<_}
 use mathlib.Core.Path.{_≡_, refl, _∙_, ap}
-use mathlib.Core.Bool.{true, _&&_}
-use mathlib.Core.List.{List, [], _∷_}
+use mathlib.Core.Bool.{true}
+use mathlib.Core.List.{List}
 use native.Mathlib.Omega.{arith}
-use lib.Dec.{leb}
 use lib.ListN.{length, getD}
-use Rattle.table.specs.Limits.{tableHead, tableLimit}
+use Rattle.table.specs.Limits.{tableHead}
 use Rattle.table.specs.Entry.{Entry, lengthAt, keyAt, entryAt}
-use Rattle.table.specs.Table.{countOf, entries, entriesAt, isTable, isMemory}
-use Rattle.table.specs.Search.{countWithin, leastKey, greatestKey, positionAt, positionIn}
-use Rattle.table.proofs.Tests.{cases}
-use Rattle.table.proofs.Position.{table-good, memory-good}
+use Rattle.table.specs.Table.{countOf, entries, entriesAt, isTable}
+use Rattle.table.specs.Search.{leastKey, greatestKey, positionAt, positionIn}
+use Rattle.table.proofs.Position.{table-good}
 use Rattle.table.proofs.Found.{entryAt-key}
 
 pub length-entriesAt : (n : ℕ) (s : List ℕ) (at : ℕ) → length (entriesAt n s at) ≡ n
@@ -34,17 +32,6 @@ last-entriesAt (suc n) s at = last-entriesAt n s (at + lengthAt s at)
 pub length-entries : (s : List ℕ) → length (entries s) ≡ countOf s
 unfolding entries
 length-entries s = length-entriesAt (countOf s) s tableHead
-
--- In a range there are no more than in all, so a place shows at most `tableLimit` there.
-pub within-few : (low high : ℕ) (es : List Entry) → countWithin low high es ≤ length es
-unfolding countWithin
-within-few low high [] = omega arith
-within-few low high (e ∷ es) =
-    let r = within-few low high es in
-    cases (leb low (e .key) && leb (e .key) high) (λ q. rw q (omega arith)) (λ q. rw q (omega arith))
-
-pub within-limit : (low high : ℕ) (s : List ℕ) → isMemory s ≡ true → countWithin low high (entries s) ≤ tableLimit
-within-limit low high s m = omega (arith, within-few low high (entries s), length-entries s, memory-good s m .few)
 
 -- The i-th entry is the one at the i-th position.
 pub nth-entries : (s : List ℕ) (i : ℕ) (d : Entry) → i < countOf s → getD (entries s) i d ≡ entryAt s (positionIn i s)

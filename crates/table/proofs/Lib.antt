@@ -6,14 +6,14 @@
 --   Room       what can be reached in a place
 --   Turn       one turn of the loops
 --   Found      a search of the bytes is a search of the entries
---   Entries    how many entries a place shows, also of a range, the i-th, the first and the last
+--   Entries    how many entries a place shows, the i-th, the first and the last
 --   Bounds     keys between the least and the greatest
 --   Writes     what the code writes is what the definitions give
 --   Decode     decode after encode
 --   Encode     encode after decode
 --   Append     appending to the bytes of a table
 --   Taken      entries taken from where they stand
---   Words      bytes that are looked at together
+--   Within     how many entries lie in a range
 pub mod Tests
 pub mod Zeros
 pub mod Form
@@ -28,4 +28,4 @@ pub mod Decode
 pub mod Encode
 pub mod Append
 pub mod Taken
-pub mod Words
+pub mod Within

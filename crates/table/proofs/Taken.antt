@@ -7,7 +7,7 @@ use mathlib.Core.List.{List}
 use native.Mathlib.Omega.{arith}
 use lib.ListN.{length, take, drop}
 use Rattle.coding.proofs.Sets.{length-part}
-use Rattle.table.specs.Limits.{entryHead, entryLimit, placeSize}
+use Rattle.table.specs.Limits.{entryHead, entryLimit}
 use Rattle.table.specs.Entry.{entryOf, entryAt, entryBytes, entryForm, entryLength, lengthAt, kindAt, keyAt}
 use Rattle.table.specs.Table.{Seated, Appends, RoomFor}
 use Rattle.table.proofs.Form.{formed, length-kept}
@@ -35,14 +35,13 @@ room-appends s kind v r h =
     let f = formed kind (entryHead + length v) h in
     record { place = r .place; begun = r .begun; form = h; room = omega (arith, r .small, r .few); few = omega (arith, r .few) }
 
-module _ (s : List ℕ) (at : ℕ) (long : length s ≡ placeSize) (t : Seated s at) where
-  -- An entry that stands whole is short.
+-- An entry that stands whole is short, and its bytes are as many as it says.
+module _ (s : List ℕ) (at : ℕ) (form : entryForm (kindAt s at) (lengthAt s at) ≡ true) (room : at + lengthAt s at ≤ length s) where
   pub entry-short : entryLength (entryAt s at) ≤ entryLimit
-  entry-short = omega (arith, entry-long s at (t .form) (omega (arith, t .room)), t .high)
+  entry-short = omega (arith, entry-long s at form room, formed (kindAt s at) (lengthAt s at) form)
 
-  -- Its bytes are as many as it says.
   pub bytes-long : length (entryBytes (entryAt s at)) ≡ lengthAt s at
-  bytes-long = length-entryBytes (entryAt s at) ∙ entry-long s at (t .form) (omega (arith, t .room))
+  bytes-long = length-entryBytes (entryAt s at) ∙ entry-long s at form room
 
 -- What the code reads of an entry: kind, key, length, and the part of the bytes that is its value.
 module _ (s : List ℕ) (at kind key len : ℕ) (hk : kind ≡ kindAt s at) (hy : key ≡ keyAt s at) (hl : len ≡ lengthAt s at) where
@@ -53,13 +52,14 @@ module _ (s : List ℕ) (at kind key len : ℕ) (hk : kind ≡ kindAt s at) (hy 
   unfolding entryAt
   entry-read = rw (part, hk, hy)
 
-  module _ (long : length s ≡ placeSize) (t : Seated s at) where
+  module _ (form : entryForm (kindAt s at) (lengthAt s at) ≡ true) (room : at + lengthAt s at ≤ length s) where
     pub value-long : entryHead + length (take (at + len - (at + entryHead)) (drop (at + entryHead) s)) ≡ len
     value-long =
-        omega (arith, length-part s (at + entryHead) (at + len - (at + entryHead)) (omega (arith, t .low, t .room)), t .low)
+        let f = formed (kindAt s at) (lengthAt s at) form in
+        omega (arith, length-part s (at + entryHead) (at + len - (at + entryHead)) (omega arith))
 
     pub form-read : entryForm kind (entryHead + length (take (at + len - (at + entryHead)) (drop (at + entryHead) s))) ≡ true
-    form-read = rw (value-long, hk, hl) (t .form)
+    form-read = rw (value-long, hk, hl) form
 
     pub appends-read : (to : List ℕ) → RoomFor 1 to → Appends to kind (take (at + len - (at + entryHead)) (drop (at + entryHead) s))
     appends-read to h = room-appends to kind (take (at + len - (at + entryHead)) (drop (at + entryHead) s)) h form-read

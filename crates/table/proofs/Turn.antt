@@ -1,24 +1,33 @@
 -- One turn of the loops that judge a table: what is left of a definition, after a byte and after an entry.
 use Prim.Native.Nat.{ℕ, suc, _+_, _-_, _≤_, _<_}
-use mathlib.Core.Path.{_≡_, refl}
-use mathlib.Core.Bool.{Bool, true, false, cond, _&&_, _||_, and-assoc}
-use mathlib.Core.List.{List}
+use mathlib.Core.Path.{_≡_, refl, sym, _∙_}
+use mathlib.Core.Bool.{Bool, true, false, cond, _&&_, _||_, and-assoc, and-true}
+use mathlib.Core.List.{List, [], _∷_}
 use native.Mathlib.Omega.{arith}
 use native.Mathlib.Numerals.{add-one}
 use lib.Dec.{leb, ltb, eqb, leb·zero, eqb·suc-zero}
-use lib.ListN.{length, getD, set, drop}
+use lib.ListN.{length, getD, set, drop, drop-of-length-le}
 use lib.Seq.{sets, drop-cons}
 use Rattle.coding.specs.Number.{numberAt}
 use Rattle.table.specs.Limits.{tableHead, tableLimit}
-use Rattle.table.specs.Entry.{lengthAt, kindAt, keyAt, entryForm}
+use Rattle.table.specs.Entry.{Entry, lengthAt, kindAt, keyAt, entryForm}
 use Rattle.table.specs.Table.{countOf, zeros, entriesAt, entriesGood, allZero, tableGood}
-use Rattle.table.specs.Search.{countBelow, countWithin}
+use Rattle.table.specs.Search.{countBelow, greatestKey}
 use Rattle.table.proofs.Found.{entryAt-key}
 
--- All bytes from i on are zero if the one at i is, and all behind it.
-pub zero-turn : (s : List ℕ) (i : ℕ) → i < length s → allZero (drop i s) ≡ eqb (getD s i 0) 0 && allZero (drop (i + 1) s)
+-- All numbers of a list are zero if those passed are, as `zero` says, and those from i on: the one at i and all behind it.
+pub zero-turn : (s : List ℕ) (i : ℕ) (zero whole : Bool) → i < length s → whole ≡ zero && allZero (drop i s)
+    → whole ≡ (zero && eqb (getD s i 0) 0) && allZero (drop (i + 1) s)
 unfolding allZero
-zero-turn s i h = rw (add-one i, drop-cons s i 0 h)
+zero-turn s i zero whole h e =
+    e ∙ rw (drop-cons s i 0 h, add-one i) (sym (and-assoc zero (eqb (getD s i 0) 0) (allZero (drop (suc i) s))))
+
+-- Where none is left, they are if those passed are.
+pub zero-end : (s : List ℕ) (i : ℕ) (zero whole : Bool) → length s ≤ i → whole ≡ zero && allZero (drop i s) → zero ≡ whole
+unfolding allZero
+zero-end s i zero whole h e =
+    let none : drop i s ≡ [] = drop-of-length-le s {i = i} h in
+    sym (e ∙ rw none (and-true zero))
 
 -- The least key that the i-th entry may have, `last` being the key before it.
 unfoldable pub leastAfter : (i last : ℕ) → ℕ
@@ -51,22 +60,27 @@ pub below-end : (k n i : ℕ) (s : List ℕ) (at : ℕ) → n ≤ i → countBel
 unfolding entriesAt countBelow
 below-end k n i s at h = let e : n - i ≡ 0 = omega arith in rw e
 
--- As many keys of the entries from the i-th on lie in a range as this one's and those behind it; where none is left, none does.
-counted-one : (b : Bool) (n : ℕ) → cond b (suc n) n ≡ cond b 1 0 + n
-counted-one true n = omega arith
-counted-one false n = omega arith
+-- The last key of some entries, `last` being the key before them: theirs, or `last` where there are none. It is the greatest.
+unfoldable pub lastAfter : (last : ℕ) → List Entry → ℕ
+lastAfter last [] = last
+lastAfter last (e ∷ es) = lastAfter (e .key) es
 
-pub within-turn : (low high n i : ℕ) (s : List ℕ) (at : ℕ) → i < n
-    → countWithin low high (entriesAt (n - i) s at)
-    ≡ cond (leb low (keyAt s at) && leb (keyAt s at) high) 1 0 + countWithin low high (entriesAt (n - (i + 1)) s (at + lengthAt s at))
-unfolding entriesAt countWithin
-within-turn low high n i s at h =
+pub greatest-last : (es : List Entry) → greatestKey es ≡ lastAfter 0 es
+unfolding greatestKey lastAfter
+greatest-last [] = refl
+greatest-last (e ∷ []) = refl
+greatest-last (e ∷ f ∷ es) = greatest-last (f ∷ es)
+
+pub last-turn : (n i : ℕ) (s : List ℕ) (at last : ℕ) → i < n
+    → lastAfter last (entriesAt (n - i) s at) ≡ lastAfter (keyAt s at) (entriesAt (n - (i + 1)) s (at + lengthAt s at))
+unfolding entriesAt lastAfter
+last-turn n i s at last h =
     let e : n - i ≡ suc (n - (i + 1)) = omega arith in
-    rw (e, entryAt-key s at) (counted-one (leb low (keyAt s at) && leb (keyAt s at) high) _)
+    rw (e, entryAt-key s at)
 
-pub within-end : (low high n i : ℕ) (s : List ℕ) (at : ℕ) → n ≤ i → countWithin low high (entriesAt (n - i) s at) ≡ 0
-unfolding entriesAt countWithin
-within-end low high n i s at h = let e : n - i ≡ 0 = omega arith in rw e
+pub last-end : (n i : ℕ) (s : List ℕ) (at last : ℕ) → n ≤ i → lastAfter last (entriesAt (n - i) s at) ≡ last
+unfolding entriesAt lastAfter
+last-end n i s at last h = let e : n - i ≡ 0 = omega arith in rw e
 
 -- A table is good if its head is, its entries are and the rest is zero.
 pub good-head : (fewest : ℕ) (s : List ℕ)

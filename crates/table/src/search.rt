@@ -1,8 +1,6 @@
 // Searching and counting the entries of a table. Keys rise, so a search ends at the first key that is not below the one sought.
 ghost use mathlib.Core.Path.{_≡_};
-ghost use mathlib.Core.Bool.{cond, _&&_};
 ghost use Prim.Native.Nat.{_<_};
-ghost use lib.Dec.{leb};
 ghost use lib.ListN.{length};
 ghost use Rattle.table.specs.Limits.{placeSize};
 ghost use Rattle.table.specs.Table.{countOf, entries, TablePlace, MemoryPlace};
@@ -81,32 +79,23 @@ pub fn find(s: &[u8], key: Key) -> Found
     }
 }
 
-// One if a key lies from low to high, both included, else none.
-fn one_within(key: Key, low: Key, high: Key) -> usize
-    ensures { λ r. ⌜ r ≡ cond (leb (low .value) (key .value) && leb (key .value) (high .value)) 1 0 ⌝ }
-{
-    if low.at_most(key) & key.at_most(high) {
-        1
-    } else {
-        0
-    }
-}
-
-// How many entries have keys from low to high, both included.
+// How many entries have keys from low to high, both included: those from low on, up to the first key above high.
 pub fn count_within(s: &[u8], low: Key, high: Key) -> usize
     requires { ⌜ MemoryPlace (now s) ⌝ }
     ensures { λ r. ⌜ r ≡ countWithin (low .value) (high .value) (entries (now (s .entry))) ⌝ }
 {
     let n = count(s);
-    let mut i = 0;
-    let mut at = limits::TABLE_HEAD;
-    let mut within = 0;
+    let first = first_from(s, low);
+    let mut i = first.index;
+    let mut at = first.at;
     while i < n {
-        within += one_within(entry::key_at(s, at), low, high);
+        if high.below(entry::key_at(s, at)) {
+            return i - first.index;
+        }
         at += entry::length_at(s, at) as usize;
         i += 1;
     }
-    within
+    i - first.index
 }
 
 // Where the i-th entry stands, counted from 0.

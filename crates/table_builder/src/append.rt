@@ -1,11 +1,11 @@
-// Writing entries: one at a position, one put behind the last of a table, and both of an entry that stands in another table.
+// Writing entries: one at a position, one put behind the last of a table, and both of an entry that stands in other bytes.
 ghost use mathlib.Core.Path.{_≡_};
 ghost use mathlib.Core.Bool.{true};
 ghost use Prim.Native.Nat.{_+_, _≤_};
 ghost use lib.ListN.{length};
 ghost use lib.Seq.{sets};
 ghost use Rattle.table.specs.Limits.{placeSize, entryHead, entryLimit};
-ghost use Rattle.table.specs.Entry.{entryForm, entryOf, entryAt, entryBytes};
+ghost use Rattle.table.specs.Entry.{entryForm, entryOf, entryAt, entryBytes, kindAt, lengthAt};
 ghost use Rattle.table.specs.Table.{appended, Seated, Appends, RoomFor};
 use super::place;
 use coding::key::Key;
@@ -42,9 +42,12 @@ pub fn append(s: &mut [u8], kind: u16, key: Key, value: &[u8])
     number::put_u16(s, 4, (n + 1) as u16);
 }
 
-// Puts the entry at a position of a table behind the last of another.
+// Puts the entry at a position of some bytes behind the last of a table.
 pub fn append_from(to: &mut [u8], s: &[u8], at: usize)
-    requires { ⌜ RoomFor 1 (now to) × ((length (now s) ≡ placeSize) × Seated (now s) at) ⌝ }
+    requires { ⌜
+        RoomFor 1 (now to)
+        × ((entryForm (kindAt (now s) at) (lengthAt (now s) at) ≡ true) × (at + lengthAt (now s) at ≤ length (now s)))
+        ⌝ }
     ensures { λ _. ⌜ now (to .exit) ≡ appended (entryAt (now (s .entry)) at) (now (to .entry)) ⌝ }
 {
     let len = entry::length_at(s, at) as usize;

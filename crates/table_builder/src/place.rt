@@ -22,7 +22,7 @@ pub fn copy(dst: &mut [u8], at: usize, src: &[u8])
 }
 
 // Makes all bytes zero.
-fn wipe(s: &mut [u8])
+pub fn wipe(s: &mut [u8])
     ensures { λ _. ⌜ now (s .exit) ≡ zeros (length (now (s .entry))) ⌝ }
 {
     let mut i = 0;

@@ -51,6 +51,9 @@
 //! # Ok::<(), zilgwern::Error>(())
 //! ```
 //!
+//! Beside the lent memory a call needs stack: `host/zilgwern.h` says how much, and it is less than Rust gives a thread that asks for
+//! no other.
+//!
 //! [`Store::range`] goes over any number of values, and [`Store::view`] shows what stands where. `examples/recorder.rs` puts it
 //! together.
 

@@ -20,14 +20,14 @@ judged c = sym (c .sizes .ensures (lent (c .before .before .before)) refl refl r
 returns : tie.Need-returns
 returns c = answer-1 (lent (c .before .before .before .before)) (judged (c .before) ∙ not-true _ (c .if1 .taken))
 
-first-broken-requires : tie.Need-first-broken-requires
-first-broken-requires c κs = judged (c .before) ∙ not-false _ (c .if1 .left)
+first-letter-requires : tie.Need-first-letter-requires
+first-letter-requires c κs = judged (c .before) ∙ not-false _ (c .if1 .left)
 
 returns-2 : tie.Need-returns-2
-returns-2 c = answer-0 (lent (c .before .before .before .before .before .before)) (judged (c .before .before .before) ∙ not-false _ (c .before .before .if1 .left)) (sym (c .if2 .taken) ∙ c .before .first-broken .ensures)
+returns-2 c = answer-0 (lent (c .before .before .before .before .before .before)) (judged (c .before .before .before) ∙ not-false _ (c .before .before .if1 .left)) (sym (c .if2 .taken) ∙ c .before .first-letter .ensures)
 
 returns-3 : tie.Need-returns-3
-returns-3 c = answer-5 (lent (c .before .before .before .before .before .before)) (judged (c .before .before .before) ∙ not-false _ (c .before .before .if1 .left)) (c .before .first-broken .result) (c .before .first-broken .ensures) (c .if2 .left)
+returns-3 c = answer-5 (lent (c .before .before .before .before .before .before)) (judged (c .before .before .before) ∙ not-false _ (c .before .before .if1 .left)) (c .before .first-letter .result) (c .before .first-letter .ensures) (c .if2 .left)
 
 pub check-spec : {M : Type 1} → statement M
-check-spec = tie.close (tie.spec sizes-requires returns first-broken-requires returns-2 returns-3)
+check-spec = tie.close (tie.spec sizes-requires returns first-letter-requires returns-2 returns-3)

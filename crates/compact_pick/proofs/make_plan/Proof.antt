@@ -10,6 +10,7 @@ use Rattle.ldc.specs.Layout.{levelCount, lengthIn, itemsIn}
 use Rattle.book.specs.Head.{headWords}
 use Rattle.book.specs.Pieces.{lent}
 use Rattle.book.specs.Place.{theIndex}
+use Rattle.compact_pick.specs.Calm.{CalmBut}
 use Rattle.compact_pick.specs.Due.{theDue, ToldBy}
 use Rattle.compact_pick.specs.Plan.{levelPlan, planOf}
 use Rattle.compact_pick.proofs.Plans.{items, short, items-long, overfull-by, full-some, plan-due, plan-level, plan-idle}
@@ -23,9 +24,9 @@ enum-known-n : tie.Need-enum-known-n
 enum-known-n c = search needs
 
 returns : tie.Need-returns
-returns c s w =
+returns c s w k =
     let d = c .before .before .before in
-    sym (plan-due s (c .before .n .given .0 .0) (c .before .n .given .0 .1 .0) (sym (d .find-due .ensures s w) ∙ ap theDue (c .before .n .given .1)))
+    sym (plan-due s (c .before .n .given .0 .0) (c .before .n .given .0 .1 .0) (sym (d .find-due .ensures s w k) ∙ ap theDue (c .before .n .given .1)))
 
 enum-told : tie.Need-enum-told
 enum-told c = search needs
@@ -38,11 +39,11 @@ find-overfull-requires c κs =
 -- No table is due, so the plan is that of the level.
 levelled : (c : tie.After-find-overfull)
     → let b = c .before .before .before .before .before .before in
-    (s : Store) → ToldBy s (lent (b .args .area .now) (b .args .cards .now) (b .args .lists .now) (headWords (b .args .head)) []) → planOf s ≡ levelPlan s (theIndex (c .find-overfull .result))
-levelled c s w =
+    (s : Store) → ToldBy s (lent (b .args .area .now) (b .args .cards .now) (b .args .lists .now) (headWords (b .args .head)) []) → CalmBut (b .args .suspect) s → planOf s ≡ levelPlan s (theIndex (c .find-overfull .result))
+levelled c s w k =
     let b = c .before .before .before .before .before .before in
     let d = c .before .before .before in
-    plan-level s (sym (d .find-due .ensures s w) ∙ ap theDue (c .before .enum-told .given .1))
+    plan-level s (sym (d .find-due .ensures s w k) ∙ ap theDue (c .before .enum-told .given .1))
     ∙ ap (levelPlan s) (sym (c .find-overfull .ensures ∙ overfull-by (b .args .area .now) (b .args .cards .now) (b .args .lists .now) (headWords (b .args .head)) (b .pre) s (w .booked)))
 
 enum-known-n-2 : tie.Need-enum-known-n-2
@@ -52,8 +53,8 @@ enum-told-2 : tie.Need-enum-told-2
 enum-told-2 c = search needs
 
 returns-2 : tie.Need-returns-2
-returns-2 c s w =
-    sym (levelled (c .before .before) s w ∙ ap (λ o. levelPlan s (theIndex o)) (c .enum-told2 .given .1) ∙ plan-idle s)
+returns-2 c s w k =
+    sym (levelled (c .before .before) s w k ∙ ap (λ o. levelPlan s (theIndex o)) (c .enum-told2 .given .1) ∙ plan-idle s)
 
 -- The level has a capacity, and tables.
 found : (c : tie.After-known-told2)
@@ -99,7 +100,7 @@ choose-requires c κs =
     })
 
 returns-3 : tie.Need-returns-3
-returns-3 c s w =
+returns-3 c s w calm =
     let i = c .before .before in
     let k = i .before .before in
     let o = k .before .before .before in
@@ -112,7 +113,7 @@ returns-3 c s w =
       level-items = w .booked .levels n four ∙ sym (lent-items i);
       level-mark = w .booked .marks n ∙ sym (c .before .mark-of .ensures);
     })
-    ∙ sym (levelled o s w ∙ ap (λ f. levelPlan s (theIndex f)) (k .before .n2 .given .1))
+    ∙ sym (levelled o s w calm ∙ ap (λ f. levelPlan s (theIndex f)) (k .before .n2 .given .1))
 
 pub make-plan-spec : {M : Type 1} → statement M
 make-plan-spec =

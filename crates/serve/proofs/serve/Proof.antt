@@ -16,7 +16,7 @@ use Rattle.ldc.proofs.Lent.Rules.{unbroken}
 use Rattle.book.specs.Head.{headWords}
 use Rattle.book.specs.Pieces.{lent}
 use Rattle.book_edit.proofs.Keeping.{shape-of, lent-kept}
-use Rattle.serve.proofs.ByKind.{good, unknown-0, unknown-above, serve-unknown, serve-misfit, serve-3, serve-4, serve-5, serve-6, serve-7, serve-put, length-3, length-4, form-put}
+use Rattle.serve.proofs.ByKind.{good, unknown-0, unknown-above, serve-unknown, serve-misfit, serve-3, serve-4, serve-5, serve-6, serve-7, serve-put, length-3, length-4, form-put, after-other, after-misfit, after-tidy, known-six}
 use Rattle.serve_write.proofs.Turns.{turned-by}
 use Rattle.serve_read.proofs.Counted.{report-served}
 use Rattle.serve.proofs.Unmoved.{scan-store, look-up-store, report-store, counts-kept, turn-read, turn-refused, turn-put}
@@ -59,9 +59,11 @@ returns c =
     let k = g .before in
     let a = k .before .before .before .before .before .args in
     let m = lent (a .area .now) (a .cards .now) (a .lists .now) (headWords (a .head)) (a .memory .now) in
-    let s = storeOf m in
-    turn-refused m (held k) (a .kind) 17 (a .answer .now) _ (a .at) _ (r .answer-bare .ensures)
-    ∙ turned-by m (a .kind) (a .body .now) (a .answer .now) (a .at) refl (sym (serve-misfit s (a .kind) (a .body .now) (sym (g .is-good .ensures) ∙ not-true _ (i .if1 .taken))))
+    let s = storeOf m in (
+      turn-refused m (held k) (a .kind) 17 (a .answer .now) _ (a .at) _ (r .answer-bare .ensures)
+          ∙ turned-by m (a .kind) (a .body .now) (a .answer .now) (a .at) refl (sym (serve-misfit s (a .kind) (a .body .now) (sym (g .is-good .ensures) ∙ not-true _ (i .if1 .taken)))),
+      after-misfit (a .suspect) s (a .kind) (a .body .now) (sym (g .is-good .ensures) ∙ not-true _ (i .if1 .taken)),
+    )
 
 key-at-requires : tie.Need-key-at-requires
 key-at-requires c κs =
@@ -71,7 +73,7 @@ key-at-requires c κs =
 look-up-reply-requires : tie.Need-look-up-reply-requires
 look-up-reply-requires c κs =
     let p = c .before .before .before .before .before .before .before .before .before .before .before .before .before .before .pre in
-    (record { memory = p .0 .memory; kept = p .0 .kept }, p .1)
+    (record { memory = p .0 .memory; kept = p .0 .kept }, p .1 .0)
 
 key-at-requires-2 : tie.Need-key-at-requires-2
 key-at-requires-2 c κs =
@@ -86,7 +88,7 @@ key-at-requires-3 c κs =
 scan-reply-requires : tie.Need-scan-reply-requires
 scan-reply-requires c κs =
     let p = c .before .before .before .before .before .before .before .before .before .before .before .before .before .before .before .pre in
-    (record { memory = p .0 .memory; kept = p .0 .kept }, p .1)
+    (record { memory = p .0 .memory; kept = p .0 .kept }, p .1 .0)
 
 flush-reply-requires : tie.Need-flush-reply-requires
 flush-reply-requires c κs = search needs
@@ -97,7 +99,7 @@ tidy-reply-requires c κs = search needs
 report-reply-requires : tie.Need-report-reply-requires
 report-reply-requires c κs =
     let b = c .before .before .before .before .before .before .before .before .before .before .before in
-    (counts-kept _ (b .pre .0 .kept) (b .pre .0 .memory), b .pre .1)
+    (counts-kept _ (b .pre .0 .kept) (b .pre .0 .memory), b .pre .1 .0)
 
 put-requires : tie.Need-put-requires
 put-requires c κs =
@@ -105,7 +107,7 @@ put-requires c κs =
     let i = t .before .before in
     let b = i .before .before .before .before .before .before .before in
     let f = form-put (b .args .kind) (b .args .body .now) (omega (arith, t .before .match .rest, t .if2 .taken)) (omega (arith, t .if2 .taken)) (fit i) in
-    (b .pre .0 .memory, (unbroken _ (b .pre .0 .kept .unbroken) .memory, (f .0, (f .1, b .pre .1))))
+    (b .pre .0 .memory, (unbroken _ (b .pre .0 .kept .unbroken) .memory, (f .0, (f .1, b .pre .1 .0))))
 
 answer-bare-requires-2 : tie.Need-answer-bare-requires-2
 answer-bare-requires-2 c κs = search needs
@@ -136,9 +138,11 @@ returns-2 c =
     let k = g .before in
     let a = k .before .before .before .before .before .args in
     let m = lent (a .area .now) (a .cards .now) (a .lists .now) (headWords (a .head)) (a .memory .now) in
-    let s = storeOf m in
-    turn-read m (held k) 3 (serveLookUp s (y .key-at .result .value)) (a .answer .now) _ (a .at) _ (look-up-store s _) (r .look-up-reply .ensures)
-    ∙ turned-by m (a .kind) (a .body .now) (a .answer .now) (a .at) (sym (x .match .keys1)) (ap (serveLookUp s) (y .key-at .ensures) ∙ sym (serve-3 s (a .kind) (a .body .now) (x .match .keys1) (fit i)))
+    let s = storeOf m in (
+      turn-read m (held k) 3 (serveLookUp s (y .key-at .result .value)) (a .answer .now) _ (a .at) _ (look-up-store s _) (r .look-up-reply .ensures)
+          ∙ turned-by m (a .kind) (a .body .now) (a .answer .now) (a .at) (sym (x .match .keys1)) (ap (serveLookUp s) (y .key-at .ensures) ∙ sym (serve-3 s (a .kind) (a .body .now) (x .match .keys1) (fit i))),
+      after-other (a .suspect) s (a .kind) (a .body .now) (λ e. omega (arith, x .match .keys1)),
+    )
 
 same-length-7 : tie.Need-same-length-7
 same-length-7 c = search needs
@@ -167,11 +171,13 @@ returns-3 c =
     let k = g .before in
     let a = k .before .before .before .before .before .args in
     let m = lent (a .area .now) (a .cards .now) (a .lists .now) (headWords (a .head)) (a .memory .now) in
-    let s = storeOf m in
-    turn-read m (held k) 4 (serveScan s (y .key-at2 .result .value) (z .key-at3 .result .value)) (a .answer .now) _ (a .at) _ (scan-store s _ _) (r .scan-reply .ensures)
-    ∙ turned-by m (a .kind) (a .body .now) (a .answer .now) (a .at) (sym (x .match .keys2))
-    (ap (λ (n : ℕ). serveScan s n (z .key-at3 .result .value)) (y .key-at2 .ensures) ∙ ap (λ (n : ℕ). serveScan s (keyIn (a .body .now)) n) (z .key-at3 .ensures)
-    ∙ sym (serve-4 s (a .kind) (a .body .now) (x .match .keys2) (fit i)))
+    let s = storeOf m in (
+      turn-read m (held k) 4 (serveScan s (y .key-at2 .result .value) (z .key-at3 .result .value)) (a .answer .now) _ (a .at) _ (scan-store s _ _) (r .scan-reply .ensures)
+          ∙ turned-by m (a .kind) (a .body .now) (a .answer .now) (a .at) (sym (x .match .keys2))
+          (ap (λ (n : ℕ). serveScan s n (z .key-at3 .result .value)) (y .key-at2 .ensures) ∙ ap (λ (n : ℕ). serveScan s (keyIn (a .body .now)) n) (z .key-at3 .ensures)
+          ∙ sym (serve-4 s (a .kind) (a .body .now) (x .match .keys2) (fit i))),
+      after-other (a .suspect) s (a .kind) (a .body .now) (λ e. omega (arith, x .match .keys2)),
+    )
 
 same-length-12 : tie.Need-same-length-12
 same-length-12 c = search needs
@@ -197,8 +203,10 @@ returns-4 c =
     let k = g .before in
     let a = k .before .before .before .before .before .args in
     let m = lent (a .area .now) (a .cards .now) (a .lists .now) (headWords (a .head)) (a .memory .now) in
-    let s = storeOf m in
-    r .flush-reply .ensures ∙ turned-by m (a .kind) (a .body .now) (a .answer .now) (a .at) (sym (x .match .keys3)) (sym (serve-5 s (a .kind) (a .body .now) (x .match .keys3) (fit i)))
+    let s = storeOf m in (
+      r .flush-reply .ensures .0 ∙ turned-by m (a .kind) (a .body .now) (a .answer .now) (a .at) (sym (x .match .keys3)) (sym (serve-5 s (a .kind) (a .body .now) (x .match .keys3) (fit i))),
+      r .flush-reply .ensures .1 ∙ after-other (a .suspect) s (a .kind) (a .body .now) (λ e. omega (arith, x .match .keys3)),
+    )
 
 same-length-17 : tie.Need-same-length-17
 same-length-17 c = search needs
@@ -224,8 +232,10 @@ returns-5 c =
     let k = g .before in
     let a = k .before .before .before .before .before .args in
     let m = lent (a .area .now) (a .cards .now) (a .lists .now) (headWords (a .head)) (a .memory .now) in
-    let s = storeOf m in
-    r .tidy-reply .ensures ∙ turned-by m (a .kind) (a .body .now) (a .answer .now) (a .at) (sym (x .match .keys4)) (sym (serve-6 s (a .kind) (a .body .now) (x .match .keys4) (fit i)))
+    let s = storeOf m in (
+      r .tidy-reply .ensures .0 ∙ turned-by m (a .kind) (a .body .now) (a .answer .now) (a .at) (sym (x .match .keys4)) (sym (serve-6 s (a .kind) (a .body .now) (x .match .keys4) (fit i))),
+      r .tidy-reply .ensures .1 ∙ after-tidy (a .suspect) s (a .kind) (a .body .now) (x .match .keys4) (fit i),
+    )
 
 same-length-22 : tie.Need-same-length-22
 same-length-22 c = search needs
@@ -246,9 +256,11 @@ returns-6 c =
     let a = k .before .before .before .before .before .args in
     let m = lent (a .area .now) (a .cards .now) (a .lists .now) (headWords (a .head)) (a .memory .now) in
     let s = storeOf m in
-    let e = rw (report-served m (k .before .before .before .before .before .pre .0 .kept)) at (r .report-reply .ensures) in
-    turn-read m (held k) 7 (serveReport s) (a .answer .now) _ (a .at) _ (report-store s) e
-    ∙ turned-by m (a .kind) (a .body .now) (a .answer .now) (a .at) (sym (x .match .keys5)) (sym (serve-7 s (a .kind) (a .body .now) (x .match .keys5) (fit i)))
+    let e = rw (report-served m (k .before .before .before .before .before .pre .0 .kept)) at (r .report-reply .ensures) in (
+      turn-read m (held k) 7 (serveReport s) (a .answer .now) _ (a .at) _ (report-store s) e
+          ∙ turned-by m (a .kind) (a .body .now) (a .answer .now) (a .at) (sym (x .match .keys5)) (sym (serve-7 s (a .kind) (a .body .now) (x .match .keys5) (fit i))),
+      after-other (a .suspect) s (a .kind) (a .body .now) (λ e. omega (arith, x .match .keys5)),
+    )
 
 same-length-25 : tie.Need-same-length-25
 same-length-25 c = search needs
@@ -265,9 +277,11 @@ returns-7 c =
     let k = g .before in
     let a = k .before .before .before .before .before .args in
     let m = lent (a .area .now) (a .cards .now) (a .lists .now) (headWords (a .head)) (a .memory .now) in
-    let s = storeOf m in
-    turn-put m (held k) (a .kind) (entryOf (a .kind) (keyIn (a .body .now)) (valueIn (a .body .now))) _ (a .answer .now) _ (a .at) _ (r .put .ensures .0) (r .put .ensures .1)
-    ∙ turned-by m (a .kind) (a .body .now) (a .answer .now) (a .at) refl (sym (serve-put s (a .kind) (a .body .now) (omega (arith, t .before .match .rest, t .if2 .taken)) (omega (arith, t .if2 .taken)) (fit i)))
+    let s = storeOf m in (
+      turn-put m (held k) (a .kind) (entryOf (a .kind) (keyIn (a .body .now)) (valueIn (a .body .now))) _ (a .answer .now) _ (a .at) _ (r .put .ensures .0) (r .put .ensures .1)
+          ∙ turned-by m (a .kind) (a .body .now) (a .answer .now) (a .at) refl (sym (serve-put s (a .kind) (a .body .now) (omega (arith, t .before .match .rest, t .if2 .taken)) (omega (arith, t .if2 .taken)) (fit i))),
+      after-other (a .suspect) s (a .kind) (a .body .now) (λ e. omega (arith, t .if2 .taken)),
+    )
 
 same-length-27 : tie.Need-same-length-27
 same-length-27 c = search needs
@@ -282,9 +296,11 @@ returns-8 c =
     let a = k .before .before .before .before .before .args in
     let m = lent (a .area .now) (a .cards .now) (a .lists .now) (headWords (a .head)) (a .memory .now) in
     let s = storeOf m in
-    let off : known (a .kind) ≡ false = ⊎-elim (λ w. rw (w .keys6) unknown-0) (λ w. unknown-above (a .kind) (omega (arith, w .0 .rest, w .1 .left))) (x .match .came) in
-    turn-refused m (held k) (a .kind) 16 (a .answer .now) _ (a .at) _ (r .answer-bare2 .ensures)
-    ∙ turned-by m (a .kind) (a .body .now) (a .answer .now) (a .at) refl (sym (serve-unknown s (a .kind) (a .body .now) off))
+    let off : known (a .kind) ≡ false = ⊎-elim (λ w. rw (w .keys6) unknown-0) (λ w. unknown-above (a .kind) (omega (arith, w .0 .rest, w .1 .left))) (x .match .came) in (
+      turn-refused m (held k) (a .kind) 16 (a .answer .now) _ (a .at) _ (r .answer-bare2 .ensures)
+          ∙ turned-by m (a .kind) (a .body .now) (a .answer .now) (a .at) refl (sym (serve-unknown s (a .kind) (a .body .now) off)),
+      after-other (a .suspect) s (a .kind) (a .body .now) (λ e. known-six (a .kind) e off),
+    )
 
 pub serve-spec : {M : Type 1} → statement M
 serve-spec =

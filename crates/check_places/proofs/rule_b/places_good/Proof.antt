@@ -28,8 +28,8 @@ mul-place-good c = search needs
 shared-slice-element-place-good : tie.Need-shared-slice-element-place-good Inv-loop μ-loop
 shared-slice-element-place-good c = omega arith
 
-element-copy-out-place-good : tie.Need-element-copy-out-place-good Inv-loop μ-loop
-element-copy-out-place-good c = omega arith
+shared-slice-read-place-good : tie.Need-shared-slice-read-place-good Inv-loop μ-loop
+shared-slice-read-place-good c = omega arith
 
 place-good-requires : tie.Need-place-good-requires Inv-loop μ-loop
 place-good-requires c κs = search needs
@@ -37,7 +37,7 @@ place-good-requires c κs = search needs
 returns : tie.Need-returns Inv-loop μ-loop
 unfolding placeGood
 returns c =
-    let a = c .before .before .before .before .before .before .args in
+    let a = c .before .before .before .before .before .before .before .args in
     let l = c .before .before .before .before .before .loop in
     from-fails (placeGood (a .cards .now) (a .counts .now)) _ (l .p) (omega arith) (l .inv)
     (sym (c .before .place-good .ensures) ∙ not-true _ (c .if1 .taken))
@@ -51,14 +51,14 @@ loop-less c = omega arith
 loop-again : tie.Need-loop-again Inv-loop μ-loop
 unfolding placeGood
 loop-again c =
-    let a = c .before .before .before .before .before .before .args in
+    let a = c .before .before .before .before .before .before .before .args in
     let l = c .before .before .before .before .before .loop in
     from-passes (placeGood (a .cards .now) (a .counts .now)) _ (l .p) (omega arith) (l .inv)
     (sym (c .before .place-good .ensures) ∙ not-false _ (c .if1 .left))
 
 returns-2 : tie.Need-returns-2 Inv-loop μ-loop
 returns-2 c =
-    let a = c .before .before .args in
+    let a = c .before .before .before .args in
     let l = c .before .loop in
     from-done (placeGood (a .cards .now) (a .counts .now)) _ (l .p) (omega arith) (l .inv)
 
@@ -71,7 +71,7 @@ places-good-spec =
     loop-holds
     mul-place-good
     shared-slice-element-place-good
-    element-copy-out-place-good
+    shared-slice-read-place-good
     place-good-requires
     returns
     add-p

@@ -7,7 +7,7 @@ use native.Mathlib.Omega.{arith}
 use borrow.Author.Tests.{lt-ltb, le-ltb}
 use borrow.Author.Needs.{needs}
 use lib.Dec.{ltb}
-use lib.ListN.{length, drop}
+use lib.ListN.{length, drop, length-set}
 use Rattle.ldc.specs.Lists.{all}
 use Rattle.check_walk.specs.Lists.{namesPlaces}
 use Rattle.book.proofs.Every.{all-fails, all-passes, all-done}
@@ -17,14 +17,17 @@ use Rattle.check_places.proofs.rule_b.tally.Statement.{statement}
 use Rattle.check_places.proofs.rule_b.tally.Tie as tie
 
 abbrev Inv-loop : tie.InvT-loop
-Inv-loop items places counts₀ i₀ counts i = (namesPlaces places items ≡ all (λ x. ltb x places) (drop i items)) × (tallied counts₀ items ≡ tallied counts (drop i items))
+Inv-loop items places counts₀ i₀ counts i =
+    (length counts ≡ length counts₀)
+    × (namesPlaces places items ≡ all (λ x. ltb x places) (drop i items))
+    × (tallied counts₀ items ≡ tallied counts (drop i items))
 
 abbrev μ-loop : tie.MeasureT-loop
 μ-loop items places counts₀ i₀ counts i = length items - i
 
 loop-holds : tie.Need-loop-holds Inv-loop μ-loop
 unfolding namesPlaces
-loop-holds c = (refl, refl)
+loop-holds c = (refl, refl, refl)
 
 mul-at : tie.Need-mul-at Inv-loop μ-loop
 mul-at c = search needs
@@ -35,23 +38,30 @@ shared-slice-read-at c = omega arith
 cast-at : tie.Need-cast-at Inv-loop μ-loop
 cast-at c = omega (arith, c .shared-slice-known2 .given (c .before .before .loop .i))
 
+same-length : tie.Need-same-length Inv-loop μ-loop
+same-length c = c .before .before .before .loop .inv .0
+
 returns : tie.Need-returns Inv-loop μ-loop
 unfolding namesPlaces
 returns c =
-    let a = c .before .before .before .before .before .args in
-    let l = c .before .before .before .loop in (
-      all-fails (λ x. ltb x (a .places)) (a .items .now) (l .i) 0 (omega arith) (l .inv .0) (le-ltb _ _ (c .if1 .taken)),
+    let l = c .before .before .before .loop in
+    let a = c .before .before .before .before .before .before .args in (
+      all-fails (λ x. ltb x (a .places)) (a .items .now) (l .i) 0 (omega arith) (l .inv .1) (le-ltb _ _ (c .if1 .taken)),
       λ e. absurd (false≢true e),
     )
 
-element-copy-out-bump : tie.Need-element-copy-out-bump Inv-loop μ-loop
-element-copy-out-bump c = omega arith
+slice-read-bump : tie.Need-slice-read-bump Inv-loop μ-loop
+slice-read-bump c =
+    let d = c .before .before .before .before in
+    omega (arith, d .loop .inv .0, d .before .before .before .pre)
 
 bump-requires : tie.Need-bump-requires Inv-loop μ-loop
 bump-requires c κs = search needs
 
-element-write-counts : tie.Need-element-write-counts Inv-loop μ-loop
-element-write-counts c = omega arith
+slice-write-counts : tie.Need-slice-write-counts Inv-loop μ-loop
+slice-write-counts c =
+    let d = c .before .before .before .before .before in
+    omega (arith, d .loop .inv .0, d .before .before .before .pre)
 
 add-i : tie.Need-add-i Inv-loop μ-loop
 add-i c = omega arith
@@ -62,19 +72,24 @@ loop-less c = omega arith
 loop-again : tie.Need-loop-again Inv-loop μ-loop
 unfolding namesPlaces
 loop-again c =
-    let a = c .before .before .before .before .before .before .before .args in
-    let l = c .before .before .before .before .before .loop in (
-      all-passes (λ x. ltb x (a .places)) (a .items .now) (l .i) 0 (omega arith) (l .inv .0) (lt-ltb _ _ (c .before .before .if1 .left)),
-      l .inv .1 ∙ tally-turn (l .counts) (a .items .now) (l .i) (omega arith) ∙ rw (c .bump .ensures),
+    let e = c .before .before in
+    let l = e .before .before .before .loop in
+    let a = e .before .before .before .before .before .before .args in (
+      simp length-set (l .inv .0),
+      all-passes (λ x. ltb x (a .places)) (a .items .now) (l .i) 0 (omega arith) (l .inv .1) (lt-ltb _ _ (e .if1 .left)),
+      l .inv .2 ∙ tally-turn (l .counts) (a .items .now) (l .i) (omega arith) ∙ rw (c .bump .ensures),
     )
+
+same-length-2 : tie.Need-same-length-2 Inv-loop μ-loop
+same-length-2 c = c .before .loop .inv .0
 
 returns-2 : tie.Need-returns-2 Inv-loop μ-loop
 unfolding namesPlaces
 returns-2 c =
-    let a = c .before .before .before .args in
-    let l = c .before .loop in (
-      all-done (λ x. ltb x (a .places)) (a .items .now) (l .i) (omega arith) (l .inv .0),
-      λ _. sym (l .inv .1 ∙ tally-end (l .counts) (a .items .now) (l .i) (omega arith)),
+    let l = c .before .loop in
+    let a = c .before .before .before .before .args in (
+      all-done (λ x. ltb x (a .places)) (a .items .now) (l .i) (omega arith) (l .inv .1),
+      λ _. sym (l .inv .2 ∙ tally-end (l .counts) (a .items .now) (l .i) (omega arith)),
     )
 
 pub tally-spec : {M : Type 1} → statement M
@@ -87,11 +102,13 @@ tally-spec =
     mul-at
     shared-slice-read-at
     cast-at
+    same-length
     returns
-    element-copy-out-bump
+    slice-read-bump
     bump-requires
-    element-write-counts
+    slice-write-counts
     add-i
     loop-less
     loop-again
+    same-length-2
     returns-2)

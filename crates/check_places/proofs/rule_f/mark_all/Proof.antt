@@ -13,13 +13,15 @@ use Rattle.check_places.proofs.rule_f.mark_all.Statement.{statement}
 use Rattle.check_places.proofs.rule_f.mark_all.Tie as tie
 
 abbrev Inv-loop : tie.InvT-loop
-Inv-loop cards marks₀ p₀ marks p = linksMarked marks₀ (flat (map linksIn cards)) ≡ linksMarked marks (flat (map linksIn (drop p cards)))
+Inv-loop cards marks₀ p₀ marks p =
+    (length marks ≡ length marks₀)
+    × (linksMarked marks₀ (flat (map linksIn cards)) ≡ linksMarked marks (flat (map linksIn (drop p cards))))
 
 abbrev μ-loop : tie.MeasureT-loop
 μ-loop cards marks₀ p₀ marks p = length cards - p
 
 loop-holds : tie.Need-loop-holds Inv-loop μ-loop
-loop-holds c = refl
+loop-holds c = (refl, refl)
 
 mul-mark-row : tie.Need-mul-mark-row Inv-loop μ-loop
 mul-mark-row c = search needs
@@ -37,10 +39,21 @@ loop-less : tie.Need-loop-less Inv-loop μ-loop
 loop-less c = omega arith
 
 loop-again : tie.Need-loop-again Inv-loop μ-loop
-loop-again c = c .before .before .before .before .loop .inv ∙ rows-turn (c .before .before .before .before .loop .marks) (c .before .before .before .before .before .args .cards .now) (c .before .before .before .before .loop .p) (omega arith) ∙ rw (c .mark-row .ensures)
+loop-again c =
+    let m = c .before .before in
+    let l = m .before .before .before .before .loop in
+    let cards = m .before .before .before .before .before .before .args .cards .now in (
+      c .before .marks .given ∙ l .inv .0,
+      l .inv .1 ∙ rows-turn (l .marks) cards (l .p) (omega arith) ∙ rw (m .mark-row .ensures),
+    )
+
+same-length : tie.Need-same-length Inv-loop μ-loop
+same-length c = c .before .loop .inv .0
 
 returns : tie.Need-returns Inv-loop μ-loop
-returns c = sym (c .before .loop .inv ∙ rows-end (c .before .loop .marks) (c .before .before .args .cards .now) (c .before .loop .p) (omega arith))
+returns c =
+    let l = c .before .loop in
+    sym (l .inv .1 ∙ rows-end (l .marks) (c .before .before .before .args .cards .now) (l .p) (omega arith))
 
 pub mark-all-spec : {M : Type 1} → statement M
 mark-all-spec =
@@ -55,4 +68,5 @@ mark-all-spec =
     add-p
     loop-less
     loop-again
+    same-length
     returns)

@@ -28,8 +28,8 @@ mul-mark-good c = search needs
 shared-slice-element-mark-good : tie.Need-shared-slice-element-mark-good Inv-loop μ-loop
 shared-slice-element-mark-good c = omega arith
 
-element-copy-out-mark-good : tie.Need-element-copy-out-mark-good Inv-loop μ-loop
-element-copy-out-mark-good c = omega arith
+shared-slice-read-mark-good : tie.Need-shared-slice-read-mark-good Inv-loop μ-loop
+shared-slice-read-mark-good c = omega arith
 
 mark-good-requires : tie.Need-mark-good-requires Inv-loop μ-loop
 mark-good-requires c κs = search needs
@@ -37,7 +37,7 @@ mark-good-requires c κs = search needs
 returns : tie.Need-returns Inv-loop μ-loop
 unfolding marksFit markFits
 returns c =
-    from-fails (markFits (c .before .before .before .before .before .before .args .cards .now) (c .before .before .before .before .before .before .args .marks .now)) (length (c .before .before .before .before .before .before .args .cards .now)) (c .before .before .before .before .before .loop .p) (omega arith) (c .before .before .before .before .before .loop .inv)
+    from-fails (markFits (c .before .before .before .before .before .before .before .args .cards .now) (c .before .before .before .before .before .before .before .args .marks .now)) (length (c .before .before .before .before .before .before .before .args .cards .now)) (c .before .before .before .before .before .loop .p) (omega arith) (c .before .before .before .before .before .loop .inv)
     ((sym (c .before .mark-good .ensures) ∙ not-true _ (c .if1 .taken)))
 
 add-p : tie.Need-add-p Inv-loop μ-loop
@@ -49,12 +49,12 @@ loop-less c = omega arith
 loop-again : tie.Need-loop-again Inv-loop μ-loop
 unfolding marksFit markFits
 loop-again c =
-    from-passes (markFits (c .before .before .before .before .before .before .args .cards .now) (c .before .before .before .before .before .before .args .marks .now)) (length (c .before .before .before .before .before .before .args .cards .now)) (c .before .before .before .before .before .loop .p) (omega arith) (c .before .before .before .before .before .loop .inv)
+    from-passes (markFits (c .before .before .before .before .before .before .before .args .cards .now) (c .before .before .before .before .before .before .before .args .marks .now)) (length (c .before .before .before .before .before .before .before .args .cards .now)) (c .before .before .before .before .before .loop .p) (omega arith) (c .before .before .before .before .before .loop .inv)
     ((sym (c .before .mark-good .ensures) ∙ not-false _ (c .if1 .left)))
 
 returns-2 : tie.Need-returns-2 Inv-loop μ-loop
 unfolding marksFit
-returns-2 c = from-done (markFits (c .before .before .args .cards .now) (c .before .before .args .marks .now)) (length (c .before .before .args .cards .now)) (c .before .loop .p) (omega arith) (c .before .loop .inv)
+returns-2 c = from-done (markFits (c .before .before .before .args .cards .now) (c .before .before .before .args .marks .now)) (length (c .before .before .before .args .cards .now)) (c .before .loop .p) (omega arith) (c .before .loop .inv)
 
 pub marks-good-spec : {M : Type 1} → statement M
 marks-good-spec =
@@ -65,7 +65,7 @@ marks-good-spec =
     loop-holds
     mul-mark-good
     shared-slice-element-mark-good
-    element-copy-out-mark-good
+    shared-slice-read-mark-good
     mark-good-requires
     returns
     add-p

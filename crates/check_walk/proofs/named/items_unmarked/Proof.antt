@@ -22,7 +22,7 @@ abbrev μ-loop : tie.MeasureT-loop
 
 loop-holds : tie.Need-loop-holds Inv-loop μ-loop
 unfolding linksOn
-loop-holds c = all-over (unmarked (c .before .args .marks .now)) (c .before .args .cards .now) (c .before .args .items .now)
+loop-holds c = all-over (unmarked (c .before .before .args .marks .now)) (c .before .before .args .cards .now) (c .before .before .args .items .now)
 
 mul-p : tie.Need-mul-p Inv-loop μ-loop
 mul-p c = search needs
@@ -31,13 +31,13 @@ shared-slice-read-p : tie.Need-shared-slice-read-p Inv-loop μ-loop
 shared-slice-read-p c = omega arith
 
 cast-p : tie.Need-cast-p Inv-loop μ-loop
-cast-p c = omega (arith, c .shared-slice-known2 .given (c .before .before .loop .i))
+cast-p c = omega (arith, c .shared-slice-known3 .given (c .before .before .loop .i))
 
 mul-row-unmarked : tie.Need-mul-row-unmarked Inv-loop μ-loop
-mul-row-unmarked c = omega (arith, below-item _ _ (c .before .before .loop .i) (c .before .before .before .before .pre) (omega arith))
+mul-row-unmarked c = omega (arith, below-item _ _ (c .before .before .loop .i) (c .before .before .before .before .before .pre) (omega arith))
 
 shared-slice-element-row-unmarked : tie.Need-shared-slice-element-row-unmarked Inv-loop μ-loop
-shared-slice-element-row-unmarked c = below-item _ _ (c .before .before .loop .i) (c .before .before .before .before .pre) (omega arith)
+shared-slice-element-row-unmarked c = below-item _ _ (c .before .before .loop .i) (c .before .before .before .before .before .pre) (omega arith)
 
 row-unmarked-requires : tie.Need-row-unmarked-requires Inv-loop μ-loop
 row-unmarked-requires c κs = search needs
@@ -45,7 +45,7 @@ row-unmarked-requires c κs = search needs
 returns : tie.Need-returns Inv-loop μ-loop
 unfolding linksOn
 returns c =
-    all-fails (λ p. all (unmarked (c .before .before .before .before .before .before .before .args .marks .now)) (linksOn (c .before .before .before .before .before .before .before .args .cards .now) p)) (c .before .before .before .before .before .before .before .args .items .now) (c .before .before .before .before .before .loop .i) 0 (omega arith) (c .before .before .before .before .before .loop .inv)
+    all-fails (λ p. all (unmarked (c .before .before .before .before .before .before .before .before .args .marks .now)) (linksOn (c .before .before .before .before .before .before .before .before .args .cards .now) p)) (c .before .before .before .before .before .before .before .before .args .items .now) (c .before .before .before .before .before .loop .i) 0 (omega arith) (c .before .before .before .before .before .loop .inv)
     (sym (c .before .row-unmarked .ensures) ∙ not-true _ (c .if1 .taken))
 
 add-i : tie.Need-add-i Inv-loop μ-loop
@@ -57,12 +57,12 @@ loop-less c = omega arith
 loop-again : tie.Need-loop-again Inv-loop μ-loop
 unfolding linksOn
 loop-again c =
-    all-passes (λ p. all (unmarked (c .before .before .before .before .before .before .before .args .marks .now)) (linksOn (c .before .before .before .before .before .before .before .args .cards .now) p)) (c .before .before .before .before .before .before .before .args .items .now) (c .before .before .before .before .before .loop .i) 0 (omega arith) (c .before .before .before .before .before .loop .inv)
+    all-passes (λ p. all (unmarked (c .before .before .before .before .before .before .before .before .args .marks .now)) (linksOn (c .before .before .before .before .before .before .before .before .args .cards .now) p)) (c .before .before .before .before .before .before .before .before .args .items .now) (c .before .before .before .before .before .loop .i) 0 (omega arith) (c .before .before .before .before .before .loop .inv)
     (sym (c .before .row-unmarked .ensures) ∙ not-false _ (c .if1 .left))
 
 returns-2 : tie.Need-returns-2 Inv-loop μ-loop
 unfolding linksOn
-returns-2 c = all-done (λ p. all (unmarked (c .before .before .before .args .marks .now)) (linksOn (c .before .before .before .args .cards .now) p)) (c .before .before .before .args .items .now) (c .before .loop .i) (omega arith) (c .before .loop .inv)
+returns-2 c = all-done (λ p. all (unmarked (c .before .before .before .before .args .marks .now)) (linksOn (c .before .before .before .before .args .cards .now) p)) (c .before .before .before .before .args .items .now) (c .before .loop .i) (omega arith) (c .before .loop .inv)
 
 pub items-unmarked-spec : {M : Type 1} → statement M
 items-unmarked-spec =

@@ -12,13 +12,15 @@ use Rattle.check_walk.proofs.named.mark_items.Statement.{statement}
 use Rattle.check_walk.proofs.named.mark_items.Tie as tie
 
 abbrev Inv-loop : tie.InvT-loop
-Inv-loop cards items marks₀ i₀ marks i = linksMarked marks₀ (linksOver cards items) ≡ linksMarked marks (linksOver cards (drop i items))
+Inv-loop cards items marks₀ i₀ marks i =
+    (length marks ≡ length marks₀)
+    × (linksMarked marks₀ (linksOver cards items) ≡ linksMarked marks (linksOver cards (drop i items)))
 
 abbrev μ-loop : tie.MeasureT-loop
 μ-loop cards items marks₀ i₀ marks i = length items - i
 
 loop-holds : tie.Need-loop-holds Inv-loop μ-loop
-loop-holds c = refl
+loop-holds c = (refl, refl)
 
 mul-p : tie.Need-mul-p Inv-loop μ-loop
 mul-p c = search needs
@@ -30,10 +32,10 @@ cast-p : tie.Need-cast-p Inv-loop μ-loop
 cast-p c = omega (arith, c .shared-slice-known2 .given (c .before .before .loop .i))
 
 mul-mark-row : tie.Need-mul-mark-row Inv-loop μ-loop
-mul-mark-row c = omega (arith, below-item _ _ (c .before .before .loop .i) (c .before .before .before .before .pre) (omega arith))
+mul-mark-row c = omega (arith, below-item _ _ (c .before .before .loop .i) (c .before .before .before .before .before .pre) (omega arith))
 
 shared-slice-element-mark-row : tie.Need-shared-slice-element-mark-row Inv-loop μ-loop
-shared-slice-element-mark-row c = below-item _ _ (c .before .before .loop .i) (c .before .before .before .before .pre) (omega arith)
+shared-slice-element-mark-row c = below-item _ _ (c .before .before .loop .i) (c .before .before .before .before .before .pre) (omega arith)
 
 mark-row-requires : tie.Need-mark-row-requires Inv-loop μ-loop
 mark-row-requires c κs = search needs
@@ -46,10 +48,22 @@ loop-less c = omega arith
 
 loop-again : tie.Need-loop-again Inv-loop μ-loop
 unfolding linksOn
-loop-again c = c .before .before .before .before .before .loop .inv ∙ items-turn (c .before .before .before .before .before .loop .marks) (c .before .before .before .before .before .before .before .args .cards .now) (c .before .before .before .before .before .before .before .args .items .now) (c .before .before .before .before .before .loop .i) (omega arith) ∙ rw (c .mark-row .ensures)
+loop-again c =
+    let m = c .before .before in
+    let l = m .before .before .before .before .before .loop in
+    let a = m .before .before .before .before .before .before .before .before .args in (
+      c .before .marks .given ∙ l .inv .0,
+      l .inv .1 ∙ items-turn (l .marks) (a .cards .now) (a .items .now) (l .i) (omega arith) ∙ rw (m .mark-row .ensures),
+    )
+
+same-length : tie.Need-same-length Inv-loop μ-loop
+same-length c = c .before .loop .inv .0
 
 returns : tie.Need-returns Inv-loop μ-loop
-returns c = sym (c .before .loop .inv ∙ items-end (c .before .loop .marks) (c .before .before .before .args .cards .now) (c .before .before .before .args .items .now) (c .before .loop .i) (omega arith))
+returns c =
+    let l = c .before .loop in
+    let a = c .before .before .before .before .args in
+    sym (l .inv .1 ∙ items-end (l .marks) (a .cards .now) (a .items .now) (l .i) (omega arith))
 
 pub mark-items-spec : {M : Type 1} → statement M
 mark-items-spec =
@@ -67,4 +81,5 @@ mark-items-spec =
     add-i
     loop-less
     loop-again
+    same-length
     returns)

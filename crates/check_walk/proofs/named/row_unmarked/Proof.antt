@@ -26,15 +26,15 @@ loop-holds : tie.Need-loop-holds Inv-loop μ-loop
 loop-holds c = refl
 
 link-at-requires : tie.Need-link-at-requires Inv-loop μ-loop
-link-at-requires c κs = omega (arith, few (c .before .before .before .args .row .now), c .before .before .links-held .ensures)
+link-at-requires c κs = omega (arith, few (c .before .before .before .before .args .row .now), c .before .before .links-held .ensures)
 
 link-unmarked-requires : tie.Need-link-unmarked-requires Inv-loop μ-loop
 link-unmarked-requires c κs = search needs
 
 returns : tie.Need-returns Inv-loop μ-loop
 returns c =
-    links-fails (c .before .before .before .before .before .before .args .row .now) (unmarked (c .before .before .before .before .before .before .args .marks .now)) (c .before .before .before .before .loop .j) (omega (arith, c .before .before .before .before .before .links-held .ensures)) (c .before .before .before .before .loop .inv)
-    (ap (unmarked (c .before .before .before .before .before .before .args .marks .now)) (sym (c .before .before .link-at .ensures)) ∙ sym (c .before .link-unmarked .ensures) ∙ not-true _ (c .if1 .taken))
+    links-fails (c .before .before .before .before .before .before .before .args .row .now) (unmarked (c .before .before .before .before .before .before .before .args .marks .now)) (c .before .before .before .before .loop .j) (omega (arith, c .before .before .before .before .before .links-held .ensures)) (c .before .before .before .before .loop .inv)
+    (ap (unmarked (c .before .before .before .before .before .before .before .args .marks .now)) (sym (c .before .before .link-at .ensures)) ∙ sym (c .before .link-unmarked .ensures) ∙ not-true _ (c .if1 .taken))
 
 add-j : tie.Need-add-j Inv-loop μ-loop
 add-j c = omega arith
@@ -44,11 +44,11 @@ loop-less c = omega arith
 
 loop-again : tie.Need-loop-again Inv-loop μ-loop
 loop-again c =
-    links-passes (c .before .before .before .before .before .before .args .row .now) (unmarked (c .before .before .before .before .before .before .args .marks .now)) (c .before .before .before .before .loop .j) (omega (arith, c .before .before .before .before .before .links-held .ensures)) (c .before .before .before .before .loop .inv)
-    (ap (unmarked (c .before .before .before .before .before .before .args .marks .now)) (sym (c .before .before .link-at .ensures)) ∙ sym (c .before .link-unmarked .ensures) ∙ not-false _ (c .if1 .left))
+    links-passes (c .before .before .before .before .before .before .before .args .row .now) (unmarked (c .before .before .before .before .before .before .before .args .marks .now)) (c .before .before .before .before .loop .j) (omega (arith, c .before .before .before .before .before .links-held .ensures)) (c .before .before .before .before .loop .inv)
+    (ap (unmarked (c .before .before .before .before .before .before .before .args .marks .now)) (sym (c .before .before .link-at .ensures)) ∙ sym (c .before .link-unmarked .ensures) ∙ not-false _ (c .if1 .left))
 
 returns-2 : tie.Need-returns-2 Inv-loop μ-loop
-returns-2 c = all-done (unmarked (c .before .before .before .args .marks .now)) (linksIn (c .before .before .before .args .row .now)) (c .before .loop .j) (omega (arith, c .before .before .links-held .ensures)) (c .before .loop .inv)
+returns-2 c = all-done (unmarked (c .before .before .before .before .args .marks .now)) (linksIn (c .before .before .before .before .args .row .now)) (c .before .loop .j) (omega (arith, c .before .before .links-held .ensures)) (c .before .loop .inv)
 
 pub row-unmarked-spec : {M : Type 1} → statement M
 row-unmarked-spec =

@@ -25,17 +25,14 @@ abbrev μ-loop : tie.MeasureT-loop
 least-requires : tie.Need-least-requires Inv-loop μ-loop
 least-requires c κs = search needs
 
-greatest-requires : tie.Need-greatest-requires Inv-loop μ-loop
-greatest-requires c κs = search needs
-
 links-held-requires : tie.Need-links-held-requires Inv-loop μ-loop
 links-held-requires c κs = search needs
 
 loop-holds : tie.Need-loop-holds Inv-loop μ-loop
-loop-holds c = (rw (c .before .before .least .ensures), rw (c .before .greatest .ensures))
+loop-holds c = (rw (c .before .least .ensures), rw (c .before .before .before .pre .1))
 
 link-at-requires : tie.Need-link-at-requires Inv-loop μ-loop
-link-at-requires c κs = omega (arith, few (c .before .before .before .before .before .before .args .row .now), c .before .before .links-held .ensures)
+link-at-requires c κs = omega (arith, few (c .before .before .before .before .before .args .row .now), c .before .before .links-held .ensures)
 
 lesser-requires : tie.Need-lesser-requires Inv-loop μ-loop
 lesser-requires c κs = search needs
@@ -57,7 +54,7 @@ loop-less c = omega arith
 
 loop-again : tie.Need-loop-again Inv-loop μ-loop
 loop-again c =
-    let row = c .before .before .before .before .before .before .before .before .before .before .before .before .before .args .row .now in
+    let row = c .before .before .before .before .before .before .before .before .before .before .before .before .args .row .now in
     let l = c .before .before .before .before .before .before .before .before .loop in
     let j = l .j in
     let link = c .before .before .before .before .before .before .link-at in
@@ -74,8 +71,8 @@ loop-again c =
 
 returns : tie.Need-returns Inv-loop μ-loop
 returns c = (
-  sym (c .before .loop .inv .0 ∙ least-end (c .before .loop .start .value) (c .before .before .before .before .before .before .args .row .now) (c .before .loop .j) (omega (arith, c .before .before .links-held .ensures))),
-  sym (c .before .loop .inv .1 ∙ greatest-end (c .before .loop .end .value) (c .before .before .before .before .before .before .args .row .now) (c .before .loop .j) (omega (arith, c .before .before .links-held .ensures))),
+  sym (c .before .loop .inv .0 ∙ least-end (c .before .loop .start .value) (c .before .before .before .before .before .args .row .now) (c .before .loop .j) (omega (arith, c .before .before .links-held .ensures))),
+  sym (c .before .loop .inv .1 ∙ greatest-end (c .before .loop .end .value) (c .before .before .before .before .before .args .row .now) (c .before .loop .j) (omega (arith, c .before .before .links-held .ensures))),
 )
 
 pub measure-spec : {M : Type 1} → statement M
@@ -85,7 +82,6 @@ measure-spec =
     Inv-loop
     μ-loop
     least-requires
-    greatest-requires
     links-held-requires
     loop-holds
     link-at-requires

@@ -1,14 +1,20 @@
--- `span_at` meets its contract: the place's table and the row's links are those of the store.
+-- `span_at` meets its contract: the place's table and the row's links are those of the store, and the key noted is the table's greatest.
 use mathlib.Core.Path.{_∙_}
 use borrow.Author.Needs.{needs}
 use Rattle.ldc.specs.Store.{spanStart, spanEnd}
 use Rattle.book.specs.Rows.{linksOn}
-use Rattle.check_walk.proofs.ShownLaws.{links-shown, table-shown, place-fits}
+use Rattle.check_walk.proofs.ShownLaws.{links-shown, table-shown}
 use Rattle.check_walk.proofs.span.span_at.Statement.{statement}
 use Rattle.check_walk.proofs.span.span_at.Tie as tie
 
+mul-t6 : tie.Need-mul-t6
+mul-t6 c = search needs
+
+shared-slice-read-t8 : tie.Need-shared-slice-read-t8
+shared-slice-read-t8 c = search needs
+
 bytes-of-requires : tie.Need-bytes-of-requires
-bytes-of-requires c κs = place-fits (c .before .args .area .now) (c .before .args .cards .now) (c .before .pre .0) (c .before .args .p) (c .before .pre .1 .0)
+bytes-of-requires c κs = search needs
 
 mul-measure : tie.Need-mul-measure
 mul-measure c = search needs
@@ -17,16 +23,29 @@ shared-slice-element-measure : tie.Need-shared-slice-element-measure
 shared-slice-element-measure c = search needs
 
 measure-requires : tie.Need-measure-requires
-measure-requires c κs = (c .before .bytes-of .ensures .1, rw (c .before .bytes-of .ensures .0) (c .before .before .before .pre .1 .1))
+measure-requires c κs =
+    let k = c .before .before .before .before .before .pre in
+    let b = c .before .bytes-of .ensures in
+    ((b .1, rw (b .0) (k .table)), k .last ∙ rw (b .0))
 
 returns : tie.Need-returns
 unfolding spanStart spanEnd linksOn
 returns c =
-    let table = table-shown (c .before .before .before .before .args .area .now) (c .before .before .before .before .args .cards .now) (c .before .before .before .before .pre .0) (c .before .before .before .before .args .p) (c .before .before .before .before .pre .1 .0) in
-    let links = links-shown (c .before .before .before .before .args .area .now) (c .before .before .before .before .args .cards .now) (c .before .before .before .before .args .p) in
-    (c .measure .ensures .0 ∙ rw (c .before .before .bytes-of .ensures .0, table, links), c .measure .ensures .1 ∙ rw (c .before .before .bytes-of .ensures .0, table, links))
+    let s = c .before .before .before .before .before .before in
+    let a = s .args in
+    let table = table-shown (a .area .now) (a .cards .now) (s .pre .sized) (a .p) (s .pre .below) in
+    let links = links-shown (a .area .now) (a .cards .now) (a .p) in
+    let bytes = c .before .before .bytes-of .ensures .0 in
+    (c .measure .ensures .0 ∙ rw (bytes, table, links), c .measure .ensures .1 ∙ rw (bytes, table, links))
 
 pub span-at-spec : {M : Type 1} → statement M
 span-at-spec =
     tie.close
-    (tie.spec bytes-of-requires mul-measure shared-slice-element-measure measure-requires returns)
+    (tie.spec
+    mul-t6
+    shared-slice-read-t8
+    bytes-of-requires
+    mul-measure
+    shared-slice-element-measure
+    measure-requires
+    returns)

@@ -1,113 +1,100 @@
--- `fill_table` meets its contract. The loop's invariant: the first i of what is left are written, and the next is found.
-use Prim.Native.Nat.{_-_, _≤_}
+-- `fill_table` meets its contract. The loop's invariant: the first i of what is left are written.
+use Prim.Native.Nat.{_+_, _-_, _≤_, _<_}
 use mathlib.Core.Path.{_≡_, refl, _∙_}
 use native.Mathlib.Omega.{arith}
-use borrow.Author.Needs.{needs}
-use lib.ListN.{length}
-use Rattle.coding.specs.Number.{Bytes}
-use Rattle.table.specs.Valid.{Values}
-use Rattle.read.specs.Found.{SeatedHit}
-use Rattle.read.specs.declared.found.Hit.the-variants.{At}
-use Rattle.compact_merge.specs.Merge.{mergedIn, fromHit}
-use Rattle.compact_merge.proofs.Merged.{merged-rising, merged-values}
-use Rattle.compact_merge.proofs.Fill.{Filling, fill-none, fill-room, fill-turn, fill-done, fill-full, left-values}
+use lib.ListN.{length, take, drop}
+use Rattle.table.specs.Limits.{tableLimit}
+use Rattle.table.specs.Table.{tableBytes}
+use Rattle.compact_merge.specs.Spots.{standing}
+use Rattle.compact_merge.proofs.Spots.{spot-seated}
+use Rattle.compact_merge.proofs.Fill.{fill-room, fill-turn, fill-done, fill-full}
 use Rattle.compact_merge.proofs.tables.fill_table.Statement.{statement}
 use Rattle.compact_merge.proofs.tables.fill_table.Tie as tie
 
 abbrev Inv-loop : tie.InvT-loop
-Inv-loop to₀ area cards n p i₀ hit₀ to i hit =
-    (i ≤ 16) × (length to ≡ length to₀) × Filling area (mergedIn area cards n p) (fromHit area hit₀ (mergedIn area cards n p)) i to hit
+Inv-loop to₀ area spots from n i₀ to i =
+    (i ≤ tableLimit) × (from + i ≤ n) × (length to ≡ length to₀) × (to ≡ tableBytes (take i (drop from (standing area spots n))))
 
 abbrev μ-loop : tie.MeasureT-loop
-μ-loop to₀ area cards n p i₀ hit₀ to i hit = 16 - i
+μ-loop to₀ area spots from n i₀ to i = tableLimit - i
 
 clear-requires : tie.Need-clear-requires Inv-loop μ-loop
-clear-requires c κs = c .before .before .before .pre .0
+clear-requires c κs = c .before .before .before .before .pre .0
+
+abbrev entered : tie.At-loop Inv-loop μ-loop → tie.Start Inv-loop μ-loop
+entered c = c .before .before .before .before .before .before .before .before
 
 loop-holds : tie.Need-loop-holds Inv-loop μ-loop
 loop-holds c =
-    let b = c .before .before .before .before .before .before in
-    let a = b .args in (
-      omega arith,
-      refl,
-      fill-none (a .area .now) (mergedIn (a .area .now) (a .cards .now) (a .n) (a .p)) _ _ _ (c .before .before .clear .ensures) (b .pre .1 .1 .1),
-    )
+    let b = c .before .before .before .before .before .before .before in
+    (omega arith, omega (arith, b .pre .1 .0), refl, c .before .before .clear .ensures)
 
-enum-known-hit : tie.Need-enum-known-hit Inv-loop μ-loop
-enum-known-hit c = search needs
-
-enum-told : tie.Need-enum-told Inv-loop μ-loop
-enum-told c = search needs
+add-at : tie.Need-add-at Inv-loop μ-loop
+add-at c =
+    let d = c .before in
+    omega (arith, entered d .pre .1 .1 .inside, d .loop .inv .1)
 
 same-length : tie.Need-same-length Inv-loop μ-loop
-same-length c = c .before .before .before .loop .inv .1 ∙ c .before .before .before .before .before .before .clear .kept .0
-
--- The area holds bytes.
-bytes : (c : tie.After-shared-slice-known Inv-loop μ-loop) → Bytes (c .before .before .args .area .now)
-bytes c = λ i. omega (arith, c .shared-slice-known .given i)
-
--- What is left at first may stand in tables.
-values : (c : tie.After-shared-slice-known Inv-loop μ-loop)
-    → let a = c .before .before .args in
-    Values (fromHit (a .area .now) (a .first) (mergedIn (a .area .now) (a .cards .now) (a .n) (a .p)))
-values c =
-    let b = c .before .before in
-    let a = b .args in
-    left-values (a .area .now) (a .first) (mergedIn (a .area .now) (a .cards .now) (a .n) (a .p))
-    (merged-values (a .area .now) (a .cards .now) (b .pre .1 .0) (bytes c) (a .n) (a .p) (b .pre .1 .1 .0))
-
--- The next entry stands whole.
-seat : (c : tie.After-hit Inv-loop μ-loop)
-    → SeatedHit (c .before .before .before .before .before .before .before .before .before .before .args .area .now) (At (c .hit .given .0 .0) (c .hit .given .0 .1 .0))
-seat c = rw (c .hit .given .1) at (c .before .before .before .loop .inv .2 .next .hits .seated)
+same-length c = c .before .before .loop .inv .2 ∙ c .before .before .before .before .before .clear .kept .0
 
 returns : tie.Need-returns Inv-loop μ-loop
 returns c =
-    let l = c .before .before .before .loop in
-    fill-done _ _ _ (l .i) (l .to) (l .hit) (l .inv .2) (l .inv .0) (c .enum-told .given .1)
+    let d = c .before .before in
+    let b = entered d in
+    let a = b .args in
+    let l = d .loop in
+    fill-done (a .area .now) (a .spots .now) (a .n) (a .from) (l .i) (b .pre .1 .1) (l .inv .1) (l .to) (l .inv .3) (l .inv .0) (c .if1 .taken)
 
-append-at-requires : tie.Need-append-at-requires Inv-loop μ-loop
-append-at-requires c κs =
-    let l = c .before .before .before .before .before .loop in (
-      fill-room _ _ _ (l .i) (l .to) (l .hit) (l .inv .2) (values (c .before .before .before .before .before .before .before .before .before .before)) (c .before .before .before .before .loop-test .taken),
-      seat (c .before .before),
+mul-spot : tie.Need-mul-spot Inv-loop μ-loop
+mul-spot c = omega (arith, entered (c .before .before) .pre .1 .1 .inside)
+
+shared-slice-read-spot : tie.Need-shared-slice-read-spot Inv-loop μ-loop
+shared-slice-read-spot c = omega (arith, entered (c .before .before .before) .pre .1 .1 .inside)
+
+-- There is room for an entry more.
+few : (c : tie.In-loop Inv-loop μ-loop) → c .before .loop .i < tableLimit
+few c = omega (arith, c .loop-test .taken)
+
+append-from-requires : tie.Need-append-from-requires Inv-loop μ-loop
+append-from-requires c κs =
+    let d = c .before .before .before .before in
+    let b = entered d in
+    let a = b .args in
+    let l = d .loop in
+    let seat = spot-seated (a .area .now) (a .spots .now) (a .n) (b .pre .1 .1) (a .from + l .i) (c .before .before .if1 .left) in (
+      fill-room (a .area .now) (a .spots .now) (a .n) (a .from) (l .i) (b .pre .1 .1) (l .inv .1) (l .to) (l .inv .3) (few (c .before .before .before)),
+      (seat .form, seat .room),
     )
 
-first-behind-requires : tie.Need-first-behind-requires Inv-loop μ-loop
-first-behind-requires c κs =
-    let b = c .before .before .before .before .before .before .before .before .before .before .before .before .before .before .before in
-    let t = seat (c .before .before .before .before .before) in
-    (b .pre .1 .0, (b .pre .1 .1 .0, (t .0, omega (arith, t .1))))
-
 add-i : tie.Need-add-i Inv-loop μ-loop
-add-i c = omega (arith, c .before .before .before .before .before .before .before .before .loop-test .taken)
+add-i c = omega (arith, few (c .before .before .before .before .before .before))
 
 loop-less : tie.Need-loop-less Inv-loop μ-loop
-loop-less c = omega (arith, c .before .before .before .before .before .before .before .before .loop-test .taken)
+loop-less c = omega (arith, few (c .before .before .before .before .before .before))
 
 loop-again : tie.Need-loop-again Inv-loop μ-loop
 loop-again c =
-    let b = c .before .before .before .before .before .before .before .before .before .before .before .before .before .before .before .before in
+    let d = c .before .before .before .before .before .before .before in
+    let b = entered d in
     let a = b .args in
-    let l = c .before .before .before .before .before .before .before .before .before .loop in
-    let few = c .before .before .before .before .before .before .before .before .loop-test .taken in
-    let known = c .before .before .before .before .before .before .before .before .before .before .before .before .before .before in
-    let h = c .before .before .before .before .before .before .hit .given in (
-      omega (arith, few),
-      c .before .before .before .append-at .kept .0 ∙ l .inv .1,
-      fill-turn (a .area .now) (mergedIn (a .area .now) (a .cards .now) (a .n) (a .p)) _ (l .i) (l .to) (l .hit) (l .inv .2) (values known) few
-          (h .0 .0) (h .0 .1 .0) (c .before .before .before .append-at .last .0) (c .first-behind .result)
-          (merged-rising (a .area .now) (a .cards .now) (b .pre .1 .0) (bytes known) (a .n) (a .p) (b .pre .1 .1 .0))
-          (h .1) (c .before .before .before .append-at .ensures) (c .first-behind .ensures),
+    let l = d .loop in
+    let more = c .before .before .before .before .before .if1 .left in (
+      omega (arith, few (c .before .before .before .before .before .before)),
+      omega (arith, more),
+      c .before .before .append-from .kept .0 ∙ l .inv .2,
+      fill-turn (a .area .now) (a .spots .now) (a .n) (a .from) (l .i) (b .pre .1 .1) (l .inv .1) (l .to) (l .inv .3) _ _ (few (c .before .before .before .before .before .before)) more refl (c .before .before .append-from .ensures),
     )
 
 same-length-2 : tie.Need-same-length-2 Inv-loop μ-loop
-same-length-2 c = c .before .loop .inv .1 ∙ c .before .before .before .before .clear .kept .0
+same-length-2 c = c .before .loop .inv .2 ∙ c .before .before .before .before .clear .kept .0
 
 returns-2 : tie.Need-returns-2 Inv-loop μ-loop
 returns-2 c =
-    let l = c .before .loop in
-    fill-full _ _ _ (l .i) (l .to) (l .hit) (l .inv .2) (omega (arith, l .inv .0, c .loop-test .left))
+    let d = c .before in
+    let b = entered d in
+    let a = b .args in
+    let l = d .loop in
+    fill-full (a .area .now) (a .spots .now) (a .n) (a .from) (l .i) (b .pre .1 .1) (l .inv .1) (l .to) (l .inv .3) (omega (arith, l .inv .0, c .loop-test .left))
 
 pub fill-table-spec : {M : Type 1} → statement M
 fill-table-spec =
@@ -117,12 +104,12 @@ fill-table-spec =
     μ-loop
     clear-requires
     loop-holds
-    enum-known-hit
-    enum-told
+    add-at
     same-length
     returns
-    append-at-requires
-    first-behind-requires
+    mul-spot
+    shared-slice-read-spot
+    append-from-requires
     add-i
     loop-less
     loop-again

@@ -10,7 +10,7 @@ use Rattle.table.specs.Table.{entriesAt, RoomFor}
 use Rattle.table.specs.Search.{positionIn}
 use Rattle.table.proofs.Position.{Stands, stands, position-step}
 use Rattle.table.proofs.Append.{length-appended}
-use Rattle.table.proofs.Taken.{seated-of, entry-long}
+use Rattle.table.proofs.Taken.{entry-long}
 use Rattle.memtable.specs.Appends.{appends}
 use Rattle.memtable.proofs.Turn.{appends-turn, appends-end, room-one, room-turn}
 use Rattle.memtable.proofs.entries.append_up_to.Statement.{statement}
@@ -38,8 +38,8 @@ append-from-requires : tie.Need-append-from-requires Inv-loop μ-loop
 append-from-requires c κs =
     let b = c .before .before .before .before .before in
     let l = c .before .before .loop in
-    let h = seated-of (b .args .s .now) (l .at) (here (c .before)) in
-    (room-one (b .args .n - l .i) (l .to) (omega arith) (l .inv .2), (b .pre .0 .place, h))
+    let h = here (c .before) in
+    (room-one (b .args .n - l .i) (l .to) (omega arith) (l .inv .2), (h .form, omega (arith, h .room, b .pre .0 .place)))
 
 length-at-requires : tie.Need-length-at-requires Inv-loop μ-loop
 length-at-requires c κs =

@@ -1,7 +1,7 @@
 -- `find_in_level` meets its contract: the key is read of the one table whose span can hold it, or of none; this is the last with a least key of at
 -- most the key, or the next.
 use Prim.Native.Nat.{_-_, _<_}
-use mathlib.Core.Path.{_≡_}
+use mathlib.Core.Path.{_≡_, _∙_}
 use mathlib.Core.Logic.{⊎-elim}
 use mathlib.Core.Option.{none}
 use native.Mathlib.Omega.{arith}
@@ -13,7 +13,8 @@ use Rattle.ldc.specs.Lists.{flat}
 use Rattle.ldc.specs.Store.{sources}
 use Rattle.book.specs.Rows.{shownBy}
 use Rattle.read.proofs.Hits.{hit-none, hit-some, hit-nothing}
-use Rattle.read.proofs.Rank.{level-met, level-next, level-last}
+use Rattle.read.proofs.Shows.{carded}
+use Rattle.read.proofs.Rank.{level-met, level-next, level-last, next-links}
 use Rattle.read_get.proofs.level.find_in_level.Statement.{statement}
 use Rattle.read_get.proofs.level.find_in_level.Tie as tie
 
@@ -46,7 +47,7 @@ returns c =
     let f = c .before .before .before .before .before .count-reached in
     let bytes : Bytes (a .area .now) = λ i. omega (arith, c .before .before .before .before .before .before .before .shared-slice-known .given i) in
     rw (level-met (a .area .now) (a .cards .now) (a .items .now) bytes (b .pre .0) (b .pre .1) (a .key .value) (f .result - 1)
-    (omega (arith, f .ensures .0)) (omega (arith, f .ensures .1 .1)) (omega (arith, f .ensures .1 .0))
+    (omega (arith, f .ensures .0)) (omega (arith, f .ensures .1 .1 .0)) (omega (arith, f .ensures .1 .0))
     (hit-some (a .area .now) _ _ _ _ (c .before .before .find-in-sources .ensures) (c .enum-told .given .1)))
     (c .before .before .find-in-sources .ensures)
 
@@ -65,18 +66,19 @@ missed c h =
     (λ w. absurd (omega (arith, h, w .left)))
     (c .if1 .came)
 
-mul-find-in-sources-2 : tie.Need-mul-find-in-sources-2
-mul-find-in-sources-2 c = search needs
+mul-find-in-links : tie.Need-mul-find-in-links
+mul-find-in-links c = search needs
 
-shared-slice-read-find-in-sources-2 : tie.Need-shared-slice-read-find-in-sources-2
-shared-slice-read-find-in-sources-2 c = search needs
+shared-slice-read-find-in-links : tie.Need-shared-slice-read-find-in-links
+shared-slice-read-find-in-links c = search needs
 
-cast-find-in-sources-2 : tie.Need-cast-find-in-sources-2
-cast-find-in-sources-2 c = omega (arith, c .shared-slice-known4 .given (c .before .before .before .count-reached .result))
+cast-find-in-links : tie.Need-cast-find-in-links
+cast-find-in-links c = omega (arith, c .shared-slice-known4 .given (c .before .before .before .count-reached .result))
 
-find-in-sources-requires-2 : tie.Need-find-in-sources-requires-2
-find-in-sources-requires-2 c κs =
-    (c .before .before .before .before .before .before .pre .0, c .before .before .before .before .before .before .pre .1 .listed (c .before .before .before .count-reached .result) (c .before .if2 .taken))
+find-in-links-requires : tie.Need-find-in-links-requires
+find-in-links-requires c κs =
+    let b = c .before .before .before .before .before .before in
+    (b .pre .0, carded (b .args .area .now) (b .args .cards .now) (b .pre .0) _ (b .pre .1 .listed (c .before .before .before .count-reached .result) (c .before .if2 .taken)))
 
 returns-2 : tie.Need-returns-2
 returns-2 c =
@@ -85,8 +87,10 @@ returns-2 c =
     let f = c .before .before .before .before .count-reached in
     let bytes : Bytes (a .area .now) = λ i. omega (arith, c .before .before .before .before .before .before .shared-slice-known .given i) in
     rw (level-next (a .area .now) (a .cards .now) (a .items .now) bytes (b .pre .0) (b .pre .1) (a .key .value) (f .result)
-    (c .before .before .if2 .taken) (f .ensures .1 .0) (omega (arith, f .ensures .1 .1)) (missed (c .before .before .before)))
-    (c .find-in-sources2 .ensures)
+    (c .before .before .if2 .taken) (f .ensures .1 .0) (omega (arith, f .ensures .1 .1 .0)) (missed (c .before .before .before))
+    ∙ next-links (a .area .now) (a .cards .now) (a .items .now) bytes (b .pre .0) (b .pre .1) (a .key .value) (f .result)
+    (c .before .before .if2 .taken) (f .ensures .1 .1 .1 (c .before .before .if2 .taken)))
+    (c .find-in-links .ensures)
 
 returns-3 : tie.Need-returns-3
 returns-3 c =
@@ -96,7 +100,7 @@ returns-3 c =
     let bytes : Bytes (a .area .now) = λ i. omega (arith, c .before .before .before .before .shared-slice-known .given i) in
     hit-none (a .area .now) _
     (level-last (a .area .now) (a .cards .now) (a .items .now) bytes (b .pre .0) (b .pre .1) (a .key .value) (f .result)
-    (c .if2 .left) (f .ensures .1 .0) (omega (arith, f .ensures .1 .1)) (missed (c .before)))
+    (c .if2 .left) (f .ensures .1 .0) (omega (arith, f .ensures .1 .1 .0)) (missed (c .before)))
 
 pub find-in-level-spec : {M : Type 1} → statement M
 find-in-level-spec =
@@ -111,9 +115,9 @@ find-in-level-spec =
     enum-told
     returns
     enum-told-2
-    mul-find-in-sources-2
-    shared-slice-read-find-in-sources-2
-    cast-find-in-sources-2
-    find-in-sources-requires-2
+    mul-find-in-links
+    shared-slice-read-find-in-links
+    cast-find-in-links
+    find-in-links-requires
     returns-2
     returns-3)

@@ -14,13 +14,13 @@ use Rattle.serve_list.proofs.list.serve_all.Statement.{statement}
 use Rattle.serve_list.proofs.list.serve_all.Tie as tie
 
 abbrev Inv-loop : tie.InvT-loop
-Inv-loop area₀ cards₀ lists₀ memory₀ list answer₀ reached₀ at₀ served₀ written₀ area cards lists memory answer reached at served written =
-    Goes (lent area₀ cards₀ lists₀ (headWords reached₀) memory₀) list answer₀ (lent area cards lists (headWords reached) memory) answer at served written
+Inv-loop area₀ cards₀ lists₀ memory₀ list answer₀ reached₀ suspect₀ at₀ served₀ written₀ area cards lists memory answer reached suspect at served written =
+    Goes (lent area₀ cards₀ lists₀ (headWords reached₀) memory₀) list answer₀ (lent area cards lists (headWords reached) memory) answer suspect at served written
     × ((length area ≡ length area₀) × ((length cards ≡ length cards₀) × ((length lists ≡ length lists₀)
     × ((length memory ≡ length memory₀) × (length answer ≡ length answer₀)))))
 
 abbrev μ-loop : tie.MeasureT-loop
-μ-loop area₀ cards₀ lists₀ memory₀ list answer₀ reached₀ at₀ served₀ written₀ area cards lists memory answer reached at served written =
+μ-loop area₀ cards₀ lists₀ memory₀ list answer₀ reached₀ suspect₀ at₀ served₀ written₀ area cards lists memory answer reached suspect at served written =
     length list - at
 
 loop-holds : tie.Need-loop-holds Inv-loop μ-loop
@@ -38,14 +38,14 @@ next : (c : tie.After-slice-known5 Inv-loop μ-loop)
     let l = i .before .loop in
     let a = i .before .before .before .before .before .before .before .args in
     Goes (lent (a .area .now) (a .cards .now) (a .lists .now) (headWords (a .head)) (a .memory .now)) (a .list .now) (a .answer .now)
-    (lent (n .serve-next .last .0) (n .serve-next .last .1 .0) (n .serve-next .last .1 .1 .0) (headWords (n .serve-next .result .head)) (n .serve-next .last .1 .1 .1 .1 .0))
-    (n .serve-next .last .1 .1 .1 .1 .1 .1 .1 .0) (l .at + lengthAt (a .list .now) (l .at)) (l .served + 1) (l .written + n .serve-next .result .written)
+    (lent (n .serve-next .last .0) (n .serve-next .last .1 .0) (n .serve-next .last .1 .1 .0) (headWords (n .serve-next .result .head)) (n .serve-next .last .1 .1 .1 .1 .1 .0))
+    (n .serve-next .last .1 .1 .1 .1 .1 .1 .1 .1 .0) (n .serve-next .result .suspect) (l .at + lengthAt (a .list .now) (l .at)) (l .served + 1) (l .written + n .serve-next .result .written)
 next c =
     let n = c .before .before in
     let e = n .before .before .before .before .before .before in
     let i = e .before in
     goes-on (i .before .loop .inv .0) (i .loop-test .taken) (λ k. omega (arith, i .before .before .before .shared-slice-known .given k)) (e .if1 .left)
-    _ _ _ (n .serve-next .ensures) (λ k. omega (arith, c .slice-known5 .given k))
+    _ _ _ (n .serve-next .ensures .0) (λ k. omega (arith, c .slice-known5 .given k)) _ (n .serve-next .ensures .1)
 
 sub-if1 : tie.Need-sub-if1 Inv-loop μ-loop
 sub-if1 c = c .before .loop .inv .0 .room
@@ -73,13 +73,13 @@ serve-next-requires c κs =
     let e = c .before .before .before .before .before in
     let i = e .before in
     let g = i .before .loop .inv .0 in
-    (record { wide = g .shape .rows; memory = g .shape .memory; kept = g .kept }, (whole-there g (i .loop-test .taken), omega (arith, e .if1 .left, g .room)))
+    (record { wide = g .shape .rows; memory = g .shape .memory; kept = g .kept }, (whole-there g (i .loop-test .taken), (omega (arith, e .if1 .left, g .room), g .calm)))
 
 add-written : tie.Need-add-written Inv-loop μ-loop
 add-written c =
     let n = c .before .before .before .before .before .before .before .before .before .before .before in
     let l = n .before .before .before .before .before .before .before .before .loop in
-    omega (arith, next (c .before .before .before .before .before .before .before .before .before) .room, n .serve-next .kept .1 .1 .1 .1 .1 .1 .1 .0, l .inv .1 .1 .1 .1 .1, n .before .before .before .before .before .before .before .before .before .before .before .before .before .before .good)
+    omega (arith, next (c .before .before .before .before .before .before .before .before .before) .room, n .serve-next .kept .1 .1 .1 .1 .1 .1 .1 .1 .0, l .inv .1 .1 .1 .1 .1, n .before .before .before .before .before .before .before .before .before .before .before .before .before .before .good)
 
 add-served : tie.Need-add-served Inv-loop μ-loop
 add-served c =
@@ -108,7 +108,7 @@ loop-again c =
     let l = n .before .before .before .before .before .before .before .before .loop in
     let k = n .serve-next .kept in (
       rw (c .length-at .ensures) (next (c .before .before .before .before .before .before .before .before .before .before)),
-      (k .0 ∙ l .inv .1 .0, (k .1 .0 ∙ l .inv .1 .1 .0, (k .1 .1 .0 ∙ l .inv .1 .1 .1 .0, (k .1 .1 .1 .1 .0 ∙ l .inv .1 .1 .1 .1 .0, k .1 .1 .1 .1 .1 .1 .1 .0 ∙ l .inv .1 .1 .1 .1 .1)))),
+      (k .0 ∙ l .inv .1 .0, (k .1 .0 ∙ l .inv .1 .1 .0, (k .1 .1 .0 ∙ l .inv .1 .1 .1 .0, (k .1 .1 .1 .1 .1 .0 ∙ l .inv .1 .1 .1 .1 .0, k .1 .1 .1 .1 .1 .1 .1 .1 .0 ∙ l .inv .1 .1 .1 .1 .1)))),
     )
 
 same-length-6 : tie.Need-same-length-6 Inv-loop μ-loop

@@ -6,12 +6,13 @@ use native.Mathlib.Omega.{arith}
 use borrow.Author.Needs.{needs}
 use lib.ListN.{length, take, drop}
 use Rattle.table.specs.Entry.{lengthAt}
+use Rattle.ldc.specs.Lent.{storeOf}
 use Rattle.ldc.specs.Request.{Request}
 use Rattle.ldc.specs.Run.{requestAt}
 use Rattle.book.specs.Head.{headWords}
 use Rattle.book.specs.Pieces.{lent}
 use Rattle.wire.proofs.Splits.{whole-fits}
-use Rattle.serve_write.specs.Turn.{request, turnedBy}
+use Rattle.serve_write.specs.Turn.{request, turnedBy, suspectAfter}
 use Rattle.serve_list.proofs.request.serve_next.Statement.{statement}
 use Rattle.serve_list.proofs.request.serve_next.Tie as tie
 
@@ -81,8 +82,10 @@ returns c =
     let n : a .at + l .length-at .result - (a .at + 4) ≡ lengthAt (a .list .now) (a .at) - 4 = omega (arith, l .length-at .ensures) in
     let part : List ℕ = take (a .at + l .length-at .result - (a .at + 4)) (drop (a .at + 4) (a .list .now)) in
     let q : request (k .kind-at .result) part ≡ requestAt (a .list .now) (a .at) =
-    ap (λ (x : ℕ). request x part) (k .kind-at .ensures) ∙ ap (λ (x : ℕ). request (requestAt (a .list .now) (a .at) .kind) (take x (drop (a .at + 4) (a .list .now)))) n in
-    r .serve .ensures ∙ ap (λ (x : Request). turnedBy m x (a .answer .now) (a .written)) q
+    ap (λ (x : ℕ). request x part) (k .kind-at .ensures) ∙ ap (λ (x : ℕ). request (requestAt (a .list .now) (a .at) .kind) (take x (drop (a .at + 4) (a .list .now)))) n in (
+      r .serve .ensures .0 ∙ ap (λ (x : Request). turnedBy m x (a .answer .now) (a .written)) q,
+      r .serve .ensures .1 ∙ ap (λ (x : Request). suspectAfter (a .suspect) (storeOf m) x) q,
+    )
 
 pub serve-next-spec : {M : Type 1} → statement M
 serve-next-spec =

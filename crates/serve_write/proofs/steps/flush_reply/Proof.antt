@@ -1,4 +1,5 @@
 -- `flush_reply` meets its contract: what `flush` leaves, and a reply without a body.
+use mathlib.Core.Path.{refl}
 use borrow.Author.Needs.{needs}
 use Rattle.ldc.specs.Lent.{storeOf}
 use Rattle.ldc.specs.Place.{serveFlush}
@@ -35,9 +36,11 @@ returns c =
     let f = c .before .before .before .before .before .before .before .before .before .before .before .before in
     let r = c .before .before in
     let a = f .before .before .before .before .before .before .before .before .before .args in
-    let v = serveFlush (storeOf (lent (a .area .now) (a .cards .now) (a .lists .now) (headWords (a .head)) (a .memory .now))) in
-    turn-bare 5 (f .flush .result .result) v _ (a .answer .now) _ (a .at) _ (f .flush .ensures .0) (flush-body _) (f .flush .ensures .1)
-    (r .answer-bare .ensures)
+    let v = serveFlush (storeOf (lent (a .area .now) (a .cards .now) (a .lists .now) (headWords (a .head)) (a .memory .now))) in (
+      turn-bare 5 (f .flush .result .result) v _ (a .answer .now) _ (a .at) _ (f .flush .ensures .0) (flush-body _) (f .flush .ensures .1)
+          (r .answer-bare .ensures),
+      refl,
+    )
 
 pub flush-reply-spec : {M : Type 1} → statement M
 flush-reply-spec =

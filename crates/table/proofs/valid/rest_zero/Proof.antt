@@ -1,35 +1,25 @@
--- `rest_zero` meets its contract. The loop's invariant: all bytes are zero if those from i on are.
+-- `rest_zero` meets its contract. The loop's invariant: all bytes are zero if those passed are, as `zero` says, and those from i on.
 use Prim.Native.Nat.{_-_}
-use mathlib.Core.Path.{_≡_, refl, sym, _∙_, ap}
-use mathlib.Core.Bool.{false}
-use mathlib.Core.List.{[]}
+use mathlib.Core.Path.{_≡_, refl}
+use mathlib.Core.Bool.{_&&_}
 use native.Mathlib.Omega.{arith}
-use borrow.Author.Tests.{eq-eqb, ne-eqb}
-use lib.ListN.{length, drop, drop-of-length-le}
+use lib.ListN.{length, drop}
 use Rattle.table.specs.Table.{allZero}
-use Rattle.table.proofs.Turn.{zero-turn}
+use Rattle.table.proofs.Turn.{zero-turn, zero-end}
 use Rattle.table.proofs.valid.rest_zero.Statement.{statement}
 use Rattle.table.proofs.valid.rest_zero.Tie as tie
 
 abbrev Inv-loop : tie.InvT-loop
-Inv-loop s from i₀ i = allZero (drop from s) ≡ allZero (drop i s)
+Inv-loop s from zero₀ i₀ zero i = allZero (drop from s) ≡ zero && allZero (drop i s)
 
 abbrev μ-loop : tie.MeasureT-loop
-μ-loop s from i₀ i = length s - i
+μ-loop s from zero₀ i₀ zero i = length s - i
 
 loop-holds : tie.Need-loop-holds Inv-loop μ-loop
 loop-holds c = refl
 
-shared-slice-read-if1 : tie.Need-shared-slice-read-if1 Inv-loop μ-loop
-shared-slice-read-if1 c = omega arith
-
-returns : tie.Need-returns Inv-loop μ-loop
-returns c =
-    let l = c .before .before .before .loop in
-    let a = c .before .before .before .before .args in
-    let t : allZero (drop (a .from) (a .s .now)) ≡ false =
-    l .inv ∙ zero-turn (a .s .now) (l .i) (omega arith) ∙ rw (ne-eqb _ 0 (c .if1 .taken)) in
-    sym t
+shared-slice-read-zero : tie.Need-shared-slice-read-zero Inv-loop μ-loop
+shared-slice-read-zero c = omega arith
 
 add-i : tie.Need-add-i Inv-loop μ-loop
 add-i c = omega arith
@@ -39,28 +29,15 @@ loop-less c = omega arith
 
 loop-again : tie.Need-loop-again Inv-loop μ-loop
 loop-again c =
-    let l = c .before .before .before .loop in
-    let a = c .before .before .before .before .args in
-    l .inv ∙ zero-turn (a .s .now) (l .i) (omega arith) ∙ rw (eq-eqb _ 0 (c .if1 .left))
+    let l = c .before .before .loop in
+    zero-turn (c .before .before .before .args .s .now) (l .i) (l .zero) _ (c .before .loop-test .taken) (l .inv)
 
-returns-2 : tie.Need-returns-2 Inv-loop μ-loop
-unfolding allZero
-returns-2 c =
+returns : tie.Need-returns Inv-loop μ-loop
+returns c =
     let l = c .before .loop in
-    let s = c .before .before .args .s .now in
-    let none : drop (l .i) s ≡ [] = drop-of-length-le s {i = l .i} (omega arith) in
-    sym (l .inv ∙ ap allZero none)
+    zero-end (c .before .before .args .s .now) (l .i) (l .zero) _ (c .loop-test .left) (l .inv)
 
 pub rest-zero-spec : {M : Type 1} → statement M
 rest-zero-spec =
     tie.close
-    (tie.spec
-    Inv-loop
-    μ-loop
-    loop-holds
-    shared-slice-read-if1
-    returns
-    add-i
-    loop-less
-    loop-again
-    returns-2)
+    (tie.spec Inv-loop μ-loop loop-holds shared-slice-read-zero add-i loop-less loop-again returns)

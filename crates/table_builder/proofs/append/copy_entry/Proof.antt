@@ -43,9 +43,9 @@ put-entry-requires c κs =
     let b = (c .before .before .before .before .before .before .before) in
     let a = b .args in
     let n = value-long (a .s .now) (a .from) (c .before .before .before .kind-at .result) (c .before .before .key-at .result .value) (c .before .before .before .before .length-at .result)
-    (c .before .before .before .kind-at .ensures) (c .before .before .key-at .ensures) (c .before .before .before .before .length-at .ensures) (b .pre .0) (b .pre .1 .0) in (
+    (c .before .before .before .kind-at .ensures) (c .before .before .key-at .ensures) (c .before .before .before .before .length-at .ensures) (b .pre .1 .0 .form) (omega (arith, b .pre .0, b .pre .1 .0)) in (
       form-read (a .s .now) (a .from) (c .before .before .before .kind-at .result) (c .before .before .key-at .result .value) (c .before .before .before .before .length-at .result)
-          (c .before .before .before .kind-at .ensures) (c .before .before .key-at .ensures) (c .before .before .before .before .length-at .ensures) (b .pre .0) (b .pre .1 .0),
+          (c .before .before .before .kind-at .ensures) (c .before .before .key-at .ensures) (c .before .before .before .before .length-at .ensures) (b .pre .1 .0 .form) (omega (arith, b .pre .0, b .pre .1 .0)),
       rw n (omega (arith, b .pre .1 .1, b .pre .1 .0, c .before .before .before .before .length-at .ensures)),
     )
 
@@ -58,7 +58,7 @@ returns c =
     let a = b .args in
     let e = entry-read (a .s .now) (a .from) (c .before .before .before .before .before .before .kind-at .result) (c .before .before .before .before .before .key-at .result .value) (c .before .before .before .before .before .before .before .length-at .result)
     (c .before .before .before .before .before .before .kind-at .ensures) (c .before .before .before .before .before .key-at .ensures) (c .before .before .before .before .before .before .before .length-at .ensures) in
-    let n = bytes-long (a .s .now) (a .from) (b .pre .0) (b .pre .1 .0) in
+    let n = bytes-long (a .s .now) (a .from) (b .pre .1 .0 .form) (omega (arith, b .pre .0, b .pre .1 .0)) in
     let l = c .before .before .before .before .before .before .before .length-at .ensures in
     (c .before .before .put-entry .ensures ∙ rw e, (l ∙ sym n, omega (arith, b .pre .1 .0, l)))
 
