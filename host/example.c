@@ -1,7 +1,8 @@
 /*
  * Document 01's example in C: makes a store of 32 places with threshold 4, puts "A" under key 5, looks it up, and prints the
  * answer bytes in hexadecimal. Breaks two rules of a sound store, and prints number and letter of a check before each is mended
- * and at the end. Then saves the store, opens it over an area of twice the places, and looks the key up there.
+ * and at the end. Then saves the store, opens it over an area of twice the places, and looks the key up there. Last, a value is
+ * deleted, and tidied away with its delete mark.
  */
 #include "zilgwern.h"
 
@@ -27,6 +28,17 @@ static uint8_t more_memory[ZILGWERN_MEMORY_BYTES];
 static const uint8_t requests[] = {
     13, 0, ZILGWERN_PUT, 0, 5, 0, 0, 0, 0, 0, 0, 0, 'A',  /* put "A" under key 5 */
     12, 0, ZILGWERN_LOOK_UP, 0, 5, 0, 0, 0, 0, 0, 0, 0,   /* look up key 5 */
+};
+
+/* A value and its delete mark, in tables of their own, and two more tables to push them down; then a report, tidies, a report. */
+static const uint8_t deletes[] = {
+    13, 0, ZILGWERN_PUT, 0, 7, 0, 0, 0, 0, 0, 0, 0, 'A', 4, 0, ZILGWERN_FLUSH, 0,
+    12, 0, ZILGWERN_DELETE, 0, 7, 0, 0, 0, 0, 0, 0, 0, 4, 0, ZILGWERN_FLUSH, 0,
+    13, 0, ZILGWERN_PUT, 0, 100, 0, 0, 0, 0, 0, 0, 0, 'B', 4, 0, ZILGWERN_FLUSH, 0,
+    13, 0, ZILGWERN_PUT, 0, 101, 0, 0, 0, 0, 0, 0, 0, 'C', 4, 0, ZILGWERN_FLUSH, 0,
+    4, 0, ZILGWERN_REPORT, 0,
+    4, 0, ZILGWERN_TIDY, 0, 4, 0, ZILGWERN_TIDY, 0, 4, 0, ZILGWERN_TIDY, 0,
+    4, 0, ZILGWERN_REPORT, 0,
 };
 
 /* Prints the number that a check gives, and with 5 the letter. */
@@ -86,6 +98,22 @@ static void save_and_open(void)
     print_bytes(answer, outcome.written);
 }
 
+/* Prints the free places before and after the tidies: the value's table is moved down, that of the delete mark is linked to it,
+ * and their merge comes to nothing, since no table on a lower level can hold the key. Nine replies come before the tidies', the
+ * first eight of 6 bytes. */
+static void delete_for_good(void)
+{
+    enum { REPORT = 8 * 6, REPORT_BYTES = 22, TIDY_BYTES = 10, FREE = 6 };
+    const size_t after = REPORT + REPORT_BYTES + 3 * TIDY_BYTES;
+    uint8_t answer[2 * ZILGWERN_ANSWER_ROOM];
+    zilgwern_outcome outcome;
+
+    zilgwern_make(area, sizeof area, cards, PLACES, lists, ZILGWERN_LIST_ITEMS(PLACES), &head, memory, THRESHOLD);
+    zilgwern_run(area, sizeof area, cards, PLACES, lists, ZILGWERN_LIST_ITEMS(PLACES), &head, memory, deletes, sizeof deletes,
+                 answer, sizeof answer, &outcome);
+    printf("free: %u, then %u\n", (unsigned)answer[REPORT + FREE], (unsigned)answer[after + FREE]);
+}
+
 int main(void)
 {
     uint8_t answer[2 * ZILGWERN_ANSWER_ROOM];
@@ -106,5 +134,6 @@ int main(void)
     print_bytes(answer, outcome.written);
     break_and_mend();
     save_and_open();
+    delete_for_good();
     return 0;
 }

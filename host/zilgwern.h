@@ -153,7 +153,7 @@ enum {
 /* Kinds of requests. */
 enum {
     ZILGWERN_PUT = 1,     /* key (8), value (0 to ZILGWERN_VALUE_BYTES) */
-    ZILGWERN_DELETE = 2,  /* key (8) */
+    ZILGWERN_DELETE = 2,  /* key (8); leaves a delete mark, which a merge drops where nothing below can be under its key */
     ZILGWERN_LOOK_UP = 3, /* key (8); the reply's body is the value */
     ZILGWERN_SCAN = 4,    /* low key (8), high key (8), both included; count (2), more (2), then so many entries */
     ZILGWERN_FLUSH = 5,   /* none: writes the memory table to a place and empties it */
@@ -173,7 +173,11 @@ enum {
     ZILGWERN_NOTHING_TO_DO = 65  /* flush of an empty memory table; tidy with no merge due and no level above its capacity */
 };
 
-/* Steps in the reply of a tidy. */
+/*
+ * Steps in the reply of a tidy. A merge writes a table anew with what its links hold, the newest entry of each key. It drops a
+ * delete mark exactly if no table on a level of greater number has a span that holds its key; a span goes from the least to the
+ * greatest of a table's own keys and its links' range ends. What is left may be nothing: then no table takes the old one's place.
+ */
 enum { ZILGWERN_MOVED = 1, ZILGWERN_LINKED = 2, ZILGWERN_MERGED = 3 };
 
 /*

@@ -7,13 +7,14 @@ use reference::campaign::key_sets;
 use reference::generate::broken::BREAKAGES;
 use reference::generate::features::FEATURES;
 use reference::generate::keys::Keys;
-use reference::generate::planted::planted;
-use reference::generate::profile::{Source, PROFILES};
+use reference::generate::planted::{planted, planted_with_marks};
+use reference::generate::profile::{Source, DELETING, PROFILES};
 use reference::generate::random::{any_lent, mix, Random};
 use reference::implementation::Ran;
 use reference::limits::ANSWER_ROOM;
 use reference::reached::{Reached, STUCK};
 use reference::request::split;
+use reference::store::Store;
 use reference::trial::{Eyes, Trial};
 use std::ops::RangeInclusive;
 
@@ -24,6 +25,8 @@ pub enum Origin {
     New,
     /// At an arbitrary sound store.
     Planted,
+    /// At one that is rich in delete marks.
+    PlantedWithMarks,
 }
 
 /// What histories of one kind have in common.
@@ -37,36 +40,67 @@ pub struct Shape {
     pub list: usize,
     /// Requests after which a history ends.
     pub requests: u64,
+    /// Whether most writes are deletes, of few keys.
+    pub deletes: bool,
 }
 
 /// Small stores made anew, which soon run out of places.
-pub const SMALL: Shape =
-    Shape { name: "small", origin: Origin::New, places: 16..=64, list: 160, requests: 2_500 };
+pub const SMALL: Shape = Shape {
+    name: "small",
+    origin: Origin::New,
+    places: 16..=64,
+    list: 160,
+    requests: 2_500,
+    deletes: false,
+};
 
 /// Stores made anew with room for all levels to overflow.
 pub const MIDDLE: Shape =
-    Shape { name: "middle", origin: Origin::New, places: 65..=600, list: 900, requests: 20_000 };
+    Shape { name: "middle", places: 65..=600, list: 900, requests: 20_000, ..SMALL };
 
 /// The largest stores.
 pub const LARGE: Shape =
-    Shape { name: "large", origin: Origin::New, places: 601..=4096, list: 4_000, requests: 40_000 };
+    Shape { name: "large", places: 601..=4096, list: 4_000, requests: 40_000, ..SMALL };
 
 /// Arbitrary sound stores: the first requests show most, before the history has tidied them up.
-pub const PLANTED: Shape =
-    Shape { name: "planted", origin: Origin::Planted, places: 16..=160, list: 60, requests: 300 };
+pub const PLANTED: Shape = Shape {
+    name: "planted",
+    origin: Origin::Planted,
+    places: 16..=160,
+    list: 60,
+    requests: 300,
+    deletes: false,
+};
 
 /// Arbitrary sound stores of any size.
-pub const PLANTED_LARGE: Shape = Shape {
-    name: "planted-large",
-    origin: Origin::Planted,
-    places: 161..=4096,
-    list: 1_500,
-    requests: 1_500,
+pub const PLANTED_LARGE: Shape =
+    Shape { name: "planted-large", places: 161..=4096, list: 1_500, requests: 1_500, ..PLANTED };
+
+/// Small stores made anew that see more deletes than puts, so that most merges meet delete marks.
+pub const DELETES: Shape = Shape { name: "deletes", deletes: true, ..SMALL };
+
+/// Small stores rich in delete marks on all levels.
+pub const PLANTED_MARKS: Shape = Shape {
+    name: "planted-marks",
+    origin: Origin::PlantedWithMarks,
+    places: 16..=64,
+    deletes: true,
+    ..PLANTED
 };
 
 /// All shapes; those of small stores come more often in a soak.
-pub const SHAPES: [&Shape; 8] =
-    [&SMALL, &SMALL, &SMALL, &MIDDLE, &PLANTED, &PLANTED, &LARGE, &PLANTED_LARGE];
+pub const SHAPES: [&Shape; 10] = [
+    &SMALL,
+    &SMALL,
+    &SMALL,
+    &MIDDLE,
+    &PLANTED,
+    &PLANTED,
+    &LARGE,
+    &PLANTED_LARGE,
+    &DELETES,
+    &PLANTED_MARKS,
+];
 
 /// What some histories came to.
 #[derive(Clone, Default, Debug)]
@@ -144,16 +178,19 @@ impl History {
     fn begin(shape: &Shape, seed: u64) -> Result<History, String> {
         let mut random = Random::new(mix(seed));
         let places = some_places(&shape.places, &mut random);
-        let keys = *random.pick(&key_sets(places));
+        let keys = *random.pick(&if shape.deletes { few_keys(places) } else { key_sets(places) });
         let trial = match shape.origin {
             Origin::New => {
                 let lent = any_lent(&mut random, places);
                 Trial::of_new_store(&Proved, Eyes::Both, lent, 1 + seed % 8)
                     .map_err(|finding| finding.words)?
             }
-            Origin::Planted => planted_trial(&mut random, places, keys),
+            Origin::Planted => planted_trial(planted(&mut random, places, keys)),
+            Origin::PlantedWithMarks => {
+                planted_trial(planted_with_marks(&mut random, places, keys))
+            }
         };
-        let profile = *random.pick(&PROFILES);
+        let profile = if shape.deletes { DELETING } else { *random.pick(&PROFILES) };
         Ok(History { trial, source: Source::new(profile, keys, random.word()), runs: 0 })
     }
 
@@ -202,9 +239,14 @@ impl History {
     }
 }
 
+/// Key sets so small that deletes find their keys.
+fn few_keys(places: usize) -> [Keys; 5] {
+    let all = 4 * places as u64;
+    [Keys::Dense(12), Keys::Dense(40), Keys::Edges(30), Keys::Dense(all), Keys::Wide(all)]
+}
+
 /// A trial that begins at a planted store, with its features counted.
-fn planted_trial(random: &mut Random, places: usize, keys: Keys) -> Trial<'static> {
-    let store = planted(random, places, keys);
+fn planted_trial(store: Store) -> Trial<'static> {
     let shown: Vec<&str> =
         FEATURES.iter().filter(|(_, shows)| shows(&store)).map(|(name, _)| *name).collect();
     let mut trial = Trial::of_sound_store(&Proved, Eyes::Both, store.encode());

@@ -88,7 +88,7 @@ fn small_stores() {
         }
         reached.add(&trial.reached);
     }
-    for seed in 1..=16 {
+    for seed in 1..=32 {
         let (part, _) = journey(&measured, Eyes::Judge, seed).expect("a journey");
         reached.add(&part);
     }

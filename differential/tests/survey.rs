@@ -19,14 +19,22 @@ const CHOICE: &str = "ZILGWERN_SURVEY";
 /// Seeds of the long lists: each gives some thirty.
 const SEEDS: std::ops::Range<u64> = 1..5;
 
-/// Not reached: 32 places are too few for a level 2 that gives tables to level 3, and with them for an empty merge; and a merge in
-/// place of a choice is too rare for one that finds no room.
-const UNREACHED: [&str; 6] = [
+/// Not reached: 32 places are too few for a level 2 that gives tables to level 3, and with them for
+/// merges there and what they hold; a merge in place of a choice is too rare for one that finds no
+/// room, and so is a merge that finds room only since delete marks go.
+const UNREACHED: [&str; 13] = [
     "moved from 2",
     "linked from 2",
     "due merge on 3",
     "merge in place of a choice on 2",
-    "merge without results",
+    "merge without results on 3",
+    "delete marks dropped on 3",
+    "no 20 since delete marks go on 1",
+    "no 20 since delete marks go on 2",
+    "no 20 since delete marks go on 3",
+    "20 although delete marks go on 3",
+    "delete marks kept on 2",
+    met::STAYS_BY_LAST,
     "20 by a merge in place of a choice",
 ];
 

@@ -4,20 +4,30 @@
 use crate::generate::broken::BREAKAGES;
 use crate::generate::features::FEATURES;
 use crate::generate::keys::Keys;
-use crate::generate::planted::planted;
-use crate::generate::profile::{Profile, Source, PROFILES};
+use crate::generate::planted::{planted, planted_with_marks};
+use crate::generate::profile::{Profile, Source, DELETING, PROFILES};
 use crate::generate::random::Random;
 use crate::implementation::Implementation;
 use crate::lent::Lent;
 use crate::limits::{ANSWER_ROOM, LIST_BYTES};
 use crate::reached::{required_of_requests, Reached, STOPS, STUCK};
+use crate::store::Store;
 use crate::trial::{Eyes, Finding, Trial};
 
 /// Where a history begins.
 #[derive(Clone, Copy, Debug)]
 pub enum Origin {
-    New { places: usize, threshold: u64 },
-    Planted { places: usize },
+    New {
+        places: usize,
+        threshold: u64,
+    },
+    Planted {
+        places: usize,
+    },
+    /// The same, rich in delete marks.
+    PlantedWithMarks {
+        places: usize,
+    },
 }
 
 /// How much is served, and how closely the judge looks.
@@ -79,13 +89,10 @@ impl Job {
                 Trial::of_new_store(subject, eyes, lent, threshold)?
             }
             Origin::Planted { places } => {
-                let store = planted(random, places, self.keys);
-                let shown: Vec<_> = FEATURES.iter().filter(|(_, shows)| shows(&store)).collect();
-                let mut trial = Trial::of_sound_store(subject, eyes, store.encode());
-                for (name, _) in shown {
-                    trial.reached.count(format!("planted: {name}"));
-                }
-                trial
+                sound_trial(subject, eyes, planted(random, places, self.keys))
+            }
+            Origin::PlantedWithMarks { places } => {
+                sound_trial(subject, eyes, planted_with_marks(random, places, self.keys))
             }
         };
         Ok(trial.with_soundness_every(self.extent.soundness_every))
@@ -108,6 +115,16 @@ impl Job {
     }
 }
 
+/// Begins at a planted store and counts its features.
+fn sound_trial(subject: &dyn Implementation, eyes: Eyes, store: Store) -> Trial<'_> {
+    let shown: Vec<_> = FEATURES.iter().filter(|(_, shows)| shows(&store)).collect();
+    let mut trial = Trial::of_sound_store(subject, eyes, store.encode());
+    for (name, _) in shown {
+        trial.reached.count(format!("planted: {name}"));
+    }
+    trial
+}
+
 /// All histories of a campaign; another seed gives another campaign of the same shape.
 pub fn jobs(seed: u64) -> Vec<Job> {
     let extent =
@@ -123,6 +140,8 @@ pub fn jobs(seed: u64) -> Vec<Job> {
     jobs.extend(jobs_from_new(4096, seed, extent(6000, 1500, 4)).into_iter().step_by(3));
     // On a planted store the first few steps show most.
     jobs.extend((0..5000).map(|number| planted_job(number, seed, extent(24, 1, 1))));
+    jobs.extend(jobs_of_deletes(seed, extent(1500, 1, 1)));
+    jobs.extend((0..1000).map(|number| marked_job(number, seed, extent(24, 1, 1))));
     jobs
 }
 
@@ -160,6 +179,31 @@ fn planted_job(number: usize, seed: u64, extent: Extent) -> Job {
     let profile = PROFILES[[4, 0, 4, 2, 4, 1][number % 6]];
     let seed = seed.wrapping_mul(1 << 32) + 10_000_000 + number as u64;
     Job { origin: Origin::Planted { places }, profile, keys, seed, extent }
+}
+
+/// Histories with many deletes on small new stores, over few keys and over many.
+fn jobs_of_deletes(seed: u64, extent: Extent) -> Vec<Job> {
+    let mut jobs = Vec::new();
+    for places in [16, 24, 40, 64] {
+        for threshold in 1..=4 {
+            for bound in [12, 40, 4 * places as u64] {
+                let origin = Origin::New { places, threshold };
+                let keys = Keys::Dense(bound);
+                let seed = seed.wrapping_mul(1 << 32) + 20_000_000 + jobs.len() as u64;
+                jobs.push(Job { origin, profile: DELETING, keys, seed, extent });
+            }
+        }
+    }
+    jobs
+}
+
+/// Histories on planted stores that are rich in delete marks.
+fn marked_job(number: usize, seed: u64, extent: Extent) -> Job {
+    let places = [16, 24, 32, 48, 64][number % 5];
+    let keys = [Keys::Dense(120), Keys::Edges(100), Keys::Wide(300)][number / 5 % 3];
+    let profile = if number.is_multiple_of(2) { PROFILES[4] } else { DELETING };
+    let seed = seed.wrapping_mul(1 << 32) + 30_000_000 + number as u64;
+    Job { origin: Origin::PlantedWithMarks { places }, profile, keys, seed, extent }
 }
 
 /// Everything that a campaign must have reached.

@@ -1,6 +1,6 @@
 //! Named counters of what a test run reached; a run that missed one of them has shown too little.
 
-use crate::judge::{met, Deed, Followed, Trigger};
+use crate::judge::{met, Deed, Followed, Marks, Trigger};
 use crate::limits::{REPLY_BYTES, VALUE_BYTES};
 use crate::slip::OLD_VALUE_BYTES;
 use std::collections::BTreeMap;
@@ -26,7 +26,14 @@ impl Reached {
     }
 
     pub fn count(&mut self, name: impl Into<String>) {
-        *self.counts.entry(name.into()).or_default() += 1;
+        self.count_times(name, 1);
+    }
+
+    /// Counts so many at once; none leaves no counter behind.
+    fn count_times(&mut self, name: impl Into<String>, times: usize) {
+        if times > 0 {
+            *self.counts.entry(name.into()).or_default() += times as u64;
+        }
     }
 
     pub fn add(&mut self, other: &Reached) {
@@ -120,24 +127,37 @@ impl Reached {
                     self.count("links on several tables");
                 }
             }
-            Deed::Merged { on, due, tables } => {
+            Deed::Merged { on, due, tables, marks } => {
                 self.count(format!("{} on {on}", merge_name(due)));
                 if let Some(trigger) = due {
                     self.count(trigger_name(trigger));
                 }
-                match tables {
-                    0 => self.count("merge without results"),
-                    1 => {}
-                    _ => self.count("merge into several tables"),
-                }
+                self.follow_results(on, tables, marks);
             }
-            Deed::MergeRefused { on: _, due } => {
+            Deed::MergeRefused { on, due, marks } => {
                 self.flush_stuck = stuck;
                 self.count(format!("20 by a {}", merge_name(due)));
+                if marks.dropped > 0 {
+                    self.count(format!("20 although delete marks go on {on}"));
+                }
                 if stuck {
                     self.count(STUCK);
                 }
             }
+        }
+    }
+
+    /// Counts what came out of a merge, and what became of its delete marks.
+    fn follow_results(&mut self, on: usize, tables: usize, marks: Marks) {
+        match tables {
+            0 => self.count(format!("merge without results on {on}")),
+            1 => {}
+            _ => self.count("merge into several tables"),
+        }
+        self.count_times(format!("delete marks dropped on {on}"), marks.dropped);
+        self.count_times(format!("delete marks kept on {on}"), marks.kept);
+        if marks.made_room {
+            self.count(format!("no 20 since delete marks go on {on}"));
         }
     }
 }
@@ -182,7 +202,6 @@ pub fn required_of_requests() -> Vec<String> {
         "put one byte too long",
         "longest reply",
         "links on several tables",
-        "merge without results",
         "merge into several tables",
         "merge in place of a choice on 1",
         "merge in place of a choice on 2",
@@ -193,11 +212,25 @@ pub fn required_of_requests() -> Vec<String> {
         (0..3).flat_map(|level| [format!("moved from {level}"), format!("linked from {level}")]),
     );
     names.extend((1..4).map(|level| format!("due merge on {level}")));
+    names.extend((1..4).flat_map(required_of_marks_on));
     let triggers = [Trigger::Count, Trigger::Weight, Trigger::Both];
     names.extend(triggers.map(|trigger| trigger_name(trigger).into()));
     names.extend(met::ALL.map(String::from));
     names.extend((1..8).map(|kind| format!("kind {kind} done")));
     names
+}
+
+/// What merges with delete marks on a level must have reached. On level 3 every one goes.
+pub fn required_of_marks_on(level: usize) -> Vec<String> {
+    let all = [
+        "merge without results on",
+        "delete marks dropped on",
+        "no 20 since delete marks go on",
+        "20 although delete marks go on",
+        "delete marks kept on",
+    ];
+    let possible = if level < 3 { all.len() } else { all.len() - 1 };
+    all[..possible].iter().map(|name| format!("{name} {level}")).collect()
 }
 
 impl fmt::Display for Reached {

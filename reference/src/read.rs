@@ -51,7 +51,7 @@ impl Store {
     }
 
     /// The one table of levels 1 to 3 whose span holds the key; spans are apart (rule G).
-    fn spanning(&self, level: usize, key: Key) -> Option<usize> {
+    pub(crate) fn spanning(&self, level: usize, key: Key) -> Option<usize> {
         let list = &self.levels[level];
         let place = *list.get(self.first_ending_from(level, key))?;
         (self.span(place).0 <= key).then_some(place)

@@ -23,8 +23,9 @@ slips! {
     // The five that the order names.
     /// A newer level 0 table is linked before an older one.
     NewerLevel0TableFirst,
-    /// Merges on every level drop delete marks.
-    MarksDroppedAboveLevel3,
+    /// Merges on every level drop every delete mark. Document 01 calls it dropping delete marks
+    /// above level 3; since note 5 some go there rightly, and the slip is that all do.
+    EveryMarkDropped,
     /// A merge takes whole frozen tables and not their slices.
     WholeFrozenTableMerged,
     /// Reads meet a table's oldest link first.
@@ -111,7 +112,7 @@ slips! {
     OlderEntryWins,
     /// 20 counts the entries before the newer of each key has won.
     NeedCountedBeforeNewerWins,
-    /// 20 counts the entries before delete marks have gone on level 3.
+    /// 20 counts the entries before delete marks have gone, on whichever level.
     NeedCountedBeforeMarksGo,
     /// All old places are freed before the results are written, and count as free.
     OldPlacesFreedFirst,
@@ -163,4 +164,27 @@ slips! {
     SavedListCountAnyPlaces,
     /// Saving judges the room before the store, as a run does.
     SaveJudgesRoomFirst,
+
+    // Old delete marks (note 5).
+    /// Delete marks that go are taken out before the newer of each key has won, and older values
+    /// come back.
+    MarksGoBeforeNewerWins,
+    /// Delete marks go on level 3 alone, and there all of them: the rule before the note.
+    MarksGoOnLevel3Alone,
+    /// Delete marks stay on level 3, too, where no level lies lower.
+    MarksStayOnLevel3,
+    /// The merged table's own level counts as lower-lying. Its span holds all keys of the merge,
+    /// so no delete mark ever goes.
+    OwnLevelLowerLying,
+    /// Of the lower-lying levels the next one alone is asked.
+    NextLevelAloneAsked,
+    /// A delete mark goes if any lower-lying level has no span holding its key, and not only if
+    /// none of them has one.
+    OneFreeLevelIsEnough,
+    /// Spans go by own keys, without the links' ranges.
+    SpanOfOwnKeys,
+    /// Own keys and each link's range are spans by themselves, without the keys between them.
+    SpanOfSingleRanges,
+    /// A delete mark stays only where a lower-lying table or slice has an entry under its very key.
+    SpanOfExactKeys,
 }

@@ -104,6 +104,26 @@ fn a_merge_is_due_by_weight() {
     assert!(!merged.contains("merge due:") && merged.contains("; 0 links\n"), "{merged}");
 }
 
+/// Marks under 1 and 2 hang on level 1 in a slice, one under 40 stands on level 0, one under 9 in memory.
+#[test]
+fn delete_marks_are_counted_where_they_wait() {
+    let folder = Folder::new("marks");
+    let values: String = (1..=5).map(|key| format!("put {key} v\n")).collect();
+    let lines = format!("{values}flush\ndel 1\ndel 2\nput 6 v\nflush\nput 30 v\nflush\n");
+    let came =
+        folder.call_with(&[], format!("{lines}del 40\nflush\ntidy all\ndel 9\nshow\n").as_bytes());
+    let third = came.out.lines().skip_while(|line| !line.starts_with("threshold")).nth(1);
+    assert_eq!(
+        third,
+        Some("delete marks: 1 in memory, 1 on level 0, 2 on level 1"),
+        "{}",
+        came.out
+    );
+    // Where there is none, no line says so.
+    let came = folder.call_with(&[], format!("{values}flush\nshow\n").as_bytes());
+    assert!(came.out.contains("threshold 4") && !came.out.contains("delete marks"), "{}", came.out);
+}
+
 #[test]
 fn the_picture_as_an_svg() {
     let folder = small("svg");

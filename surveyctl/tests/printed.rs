@@ -74,14 +74,14 @@ fn the_sessions_of_the_readme_run_as_printed() {
 /// Those that call `survey` want `rt check survey` first.
 #[test]
 fn the_sessions_of_the_page_of_formats_run_as_printed() {
-    run_sessions(&Folder::new("formats"), include_str!("../../docs/FORMATS.md"), 6);
+    run_sessions(&Folder::new("formats"), include_str!("../../docs/FORMATS.md"), 9);
 }
 
 /// The tour of the main README, and the picture that it shows.
 #[test]
 fn the_tour_runs_as_printed() {
     let folder = Folder::new("tour");
-    run_sessions(&folder, include_str!("../../README.md"), 18);
+    run_sessions(&folder, include_str!("../../README.md"), 30);
     let shown = include_str!("../../docs/tour.svg");
     assert!(
         folder.read("van.svg") == shown.as_bytes(),

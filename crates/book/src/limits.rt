@@ -8,7 +8,7 @@ pub const MOST_PLACES: usize = 4096;
 // So many level lists.
 pub const LEVELS: usize = 4;
 
-// The levels above this one have a capacity; its merges drop delete marks.
+// The levels above this one have a capacity.
 pub const LAST_LEVEL: usize = LEVELS - 1;
 
 // A row has room for so many links; a threshold is at least 1 and at most as great.

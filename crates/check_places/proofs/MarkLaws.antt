@@ -1,7 +1,7 @@
 -- What marks say: which places links name. Rule F by marks, and by marks that links of different levels name no common place.
 use Prim.Native.Nat.{ℕ, zero, suc, _+_, _≤_, _<_}
 use mathlib.Core.Path.{_≡_, refl, sym, _∙_, ap}
-use mathlib.Core.Bool.{Bool, true, false, cond, not, _&&_, _||_, Bool·beq, and-true}
+use mathlib.Core.Bool.{Bool, true, false, cond, not, _&&_, Bool·beq, and-true}
 use mathlib.Core.List.{List, [], _∷_, _++_, map, append-nil, List·Memᴰ, List·Memᴰ·head, List·Memᴰ·tail, List·Memᴰ·not-nil, List·Memᴰ·append-cases}
 use mathlib.Core.Logic.{⊎-elim}
 use native.Mathlib.Omega.{arith}
@@ -15,7 +15,7 @@ use Rattle.table.proofs.Zeros.{length-zeros}
 use Rattle.ldc.specs.Lists.{all, any, flat}
 use Rattle.ldc.specs.Store.{Link, linksOf}
 use Rattle.ldc.specs.Rules.{Hung, apart, allApart}
-use Rattle.ldc.proofs.Basics.ListLaws.{all-of}
+use Rattle.ldc.proofs.Basics.ListLaws.{all-of, any-append}
 use Rattle.ldc.specs.Layout.{cardOf, itemsIn}
 use Rattle.book.specs.Row.{linksIn}
 use Rattle.check_walk.specs.Links.{pairs, apartIn, linksOver, unmarked, levelsApart, linksMarked}
@@ -45,10 +45,6 @@ mark-value t (l ∷ ls) p h =
     one false = refl
 
 -- ---- rule F
-
-any-append : {A : Type 0} (test : A → Bool) (xs ys : List A) → any test (xs ++ ys) ≡ (any test xs || any test ys)
-any-append test [] ys = refl
-any-append test (x ∷ xs) ys = rw (any-append test xs ys) (sym (mathlib.Core.Bool.or-assoc (test x) (any test xs) (any test ys)))
 
 any-rows : (test : Link → Bool) (cards : List (List ℕ))
     → any test (flat (map linksIn cards)) ≡ any (λ c. any test (linksOf c)) (map cardOf cards)

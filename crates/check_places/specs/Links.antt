@@ -25,7 +25,8 @@ walkC area cards = allFrom (length cards) 0 (placeTabled area cards)
 -- The greatest key of each table is noted, at the number of its place.
 pub record Noted (area : List ℕ) (cards : List (List ℕ)) (ends : List ℕ) : Type 0 where
   pub room : length cards ≤ length ends
-  pub last : (p : ℕ) → p < length cards → isFree (cardOf (getD cards p [])) ≡ false → getD ends p 0 ≡ greatestKey (entries (placeOf area p))
+  pub last : (p : ℕ) → p < length cards → isFree (cardOf (getD cards p [])) ≡ false
+      → getD ends p 0 ≡ greatestKey (entries (placeOf area p))
 
 -- ---- rule E: each link by itself
 

@@ -39,29 +39,29 @@ length-out (t ∷ ts) h =
 
 module _ (m : Lent) (g : Legible (m .area) (m .cards)) (bytes : Bytes (m .area)) (n p : ℕ) (t : Tabled (m .area) p) where
   abbrev ts : List (List Entry)
-  ts = tablesOut (m .area) (m .cards) n p
+  ts = tablesOut (m .area) (m .cards) (m .lists) (m .head) n p
 
   long : length (bytesOut ts) ≡ length ts * placeSize
-  long = length-out ts (λ es x. valid-size es (tables-valid (m .area) (m .cards) g bytes n p t es x .valid))
+  long = length-out ts (λ es x. valid-size es (tables-valid (m .area) (m .cards) g bytes (m .lists) (m .head) n p t es x .valid))
 
-  pub few : (k : ℕ) → k ≡ length (tablesOut (m .area) (m .cards) n p) → k ≤ mergeTables
-  few k e = omega (arith, tables-few (m .area) (m .cards) g bytes n p t)
+  pub few : (k : ℕ) → k ≡ length (tablesOut (m .area) (m .cards) (m .lists) (m .head) n p) → k ≤ mergeTables
+  few k e = omega (arith, tables-few (m .area) (m .cards) g bytes (m .lists) (m .head) n p t)
 
   -- What was built are the tables of the definition.
-  pub built : (before : List ℕ) (k : ℕ) → length before ≡ mergeTables * placeSize → k ≡ length (tablesOut (m .area) (m .cards) n p)
-      → take (k * placeSize) (sets before 0 (bytesOut (tablesOut (m .area) (m .cards) n p))) ≡ flat (map tableBytes (mergedTables (storeOf m) n p))
+  pub built : (before : List ℕ) (k : ℕ) → length before ≡ mergeTables * placeSize → k ≡ length (tablesOut (m .area) (m .cards) (m .lists) (m .head) n p)
+      → take (k * placeSize) (sets before 0 (bytesOut (tablesOut (m .area) (m .cards) (m .lists) (m .head) n p))) ≡ flat (map tableBytes (mergedTables (storeOf m) n p))
   unfolding bytesOut
   built before k whole e =
       let size : k * placeSize ≡ length (bytesOut ts) = omega (arith, long, e) in
       rw (tables-shown m n p, size)
-      (part-same before 0 (bytesOut ts) (omega (arith, long, tables-few (m .area) (m .cards) g bytes n p t)))
+      (part-same before 0 (bytesOut ts) (omega (arith, long, tables-few (m .area) (m .cards) g bytes (m .lists) (m .head) n p t)))
 
-pub many : (m : Lent) (n p k : ℕ) → k ≡ length (tablesOut (m .area) (m .cards) n p) → length (mergedTables (storeOf m) n p) ≡ k
+pub many : (m : Lent) (n p k : ℕ) → k ≡ length (tablesOut (m .area) (m .cards) (m .lists) (m .head) n p) → length (mergedTables (storeOf m) n p) ≡ k
 many m n p k e = rw (tables-shown m n p) (sym e)
 
 -- ---- refused or done
 
-module _ (m : Lent) (n p k : ℕ) (e : k ≡ length (tablesOut (m .area) (m .cards) n p)) where
+module _ (m : Lent) (n p k : ℕ) (e : k ≡ length (tablesOut (m .area) (m .cards) (m .lists) (m .head) n p)) where
   pub roomy : leb k (freeRows (m .cards)) ≡ true → k ≤ freePlaces (storeOf m)
   roomy q = rw (← (free-by m)) (leb-true k (freeRows (m .cards)) q)
 

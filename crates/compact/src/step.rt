@@ -32,7 +32,7 @@ pub fn merge_or_refuse(
         ⌝ }
 {
     let mut out = [0u8; tables::MERGE_BYTES];
-    let k = tables::merge_into(area, cards, n, p, &mut out);
+    let k = tables::merge_into(area, cards, lists, head, n, p, &mut out);
     if !free::free_at_least(cards, k) {
         return Tidied {
             result: results::NO_ROOM,

@@ -5,15 +5,16 @@ use mathlib.Core.List.{List, []}
 use native.Mathlib.Omega.{arith}
 use lib.ListN.{length}
 use Rattle.coding.specs.Number.{Bytes}
-use Rattle.ldc.specs.Store.{card, links, bytesAt, table, slice, sources, level}
+use Rattle.ldc.specs.Store.{level}
 use Rattle.ldc.specs.Layout.{headSize}
 use Rattle.ldc.specs.Lent.{Lent, levelOf, storeOf, lentOf}
 use Rattle.ldc.specs.Place.{freePlaces}
-use Rattle.ldc.specs.Tidy.{mergedEntries, mergedTables}
+use Rattle.ldc.specs.Tidy.{mergedTables}
 use Rattle.ldc.proofs.Stores.Sound.{Sound}
 use Rattle.ldc.specs.Facts.{Shape, Merging}
 use Rattle.book.specs.Pieces.{lent}
 use Rattle.book_edit.specs.Shown.{Fits, Shows}
+use Rattle.compact_merge.proofs.Given.{tables-shown}
 use Rattle.compact_install.specs.Tables.{Tables, Placing}
 use Rattle.compact_install.specs.Merge.{Backed, Merges}
 use Rattle.book_edit.proofs.Keeping.{shape-of, sound-kept, fits-kept, shows-kept, lists-kept, lent-kept}
@@ -25,8 +26,7 @@ module _ (area : List ℕ) (cards : List (List ℕ)) (lists head x y : List ℕ)
   level-same n = refl
 
   tables-same : (n p : ℕ) → mergedTables (storeOf (lent area cards lists head x)) n p ≡ mergedTables (storeOf (lent area cards lists head y)) n p
-  unfolding mergedTables mergedEntries sources slice table links card bytesAt storeOf
-  tables-same n p = refl
+  tables-same n p = tables-shown (lent area cards lists head x) n p ∙ sym (tables-shown (lent area cards lists head y) n p)
 
   free-same : freePlaces (storeOf (lent area cards lists head x)) ≡ freePlaces (storeOf (lent area cards lists head y))
   unfolding freePlaces storeOf

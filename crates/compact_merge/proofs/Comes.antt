@@ -1,7 +1,7 @@
 -- What comes out of a merge: all sources are gathered, since there is room for the entries of nine tables, and what is sifted of them is
 -- what the definition keeps.
 use Prim.Native.Nat.{ℕ, suc, _≤_, _^_}
-use mathlib.Core.Path.{_≡_, refl, _∙_, ap}
+use mathlib.Core.Path.{_≡_, refl, sym, _∙_, ap}
 use mathlib.Core.List.{List, [], _∷_, append-nil}
 use native.Mathlib.Omega.{arith}
 use borrow.Author.Tests.{le-leb}
@@ -13,7 +13,7 @@ use Rattle.table.specs.Valid.{Keys}
 use Rattle.ldc.specs.Lists.{keep}
 use Rattle.ldc.specs.Store.{sources, within}
 use Rattle.ldc.specs.Read.{gather}
-use Rattle.ldc.specs.Tidy.{greatest, mergedEntries}
+use Rattle.ldc.specs.Tidy.{greatest, comesOut}
 use Rattle.ldc.proofs.Entries.Keys.{keys-order, keys-gather}
 use Rattle.ldc.proofs.Entries.Few.{gather-few, valid-keys}
 use Rattle.book.specs.Rows.{shownBy}
@@ -21,10 +21,10 @@ use Rattle.read.specs.Shown.{Tabled, Legible}
 use Rattle.read_gather.specs.Gathered.{AllSeated, Gathers}
 use Rattle.read_gather.specs.Sources.{ranges, TakenAll}
 use Rattle.read_gather.proofs.Steps.{taken-gathers}
-use Rattle.compact_merge.specs.Merge.{mergeEntries, staysOn, mergedIn}
+use Rattle.compact_merge.specs.Merge.{mergeEntries, storeIn, mergedIn}
 use Rattle.compact_merge.specs.Spots.{standing, Stand, Sifted}
 use Rattle.compact_merge.proofs.Sources.{sources-valid, sources-few}
-use Rattle.compact_merge.proofs.Merged.{merged-rising, merged-values}
+use Rattle.compact_merge.proofs.Merged.{merged-by, merged-rising, merged-values}
 
 -- From the least key up to the greatest are all.
 within-all : (low high : ℕ) (es : List Entry) → Keys low (suc high) es → within 0 high es ≡ es
@@ -52,15 +52,14 @@ module _ (area : List ℕ) (cards : List (List ℕ)) (g : Legible area cards) (b
     gathered-seated = gathers .seated
 
     -- What is then sifted is what comes out.
-    module _ (n : ℕ) (spots″ : List ℕ) (left : ℕ) (f : Sifted (staysOn n) area spots′ used spots″ left) where
-      pub comes-out : standing area spots″ left ≡ mergedIn area cards n p
-      unfolding mergedEntries
-      comes-out = f .kept ∙ ap (keep (staysOn n)) (gathers .shown)
+    module _ (lists head : List ℕ) (n : ℕ) (spots″ : List ℕ) (left : ℕ) (f : Sifted (comesOut (storeIn area cards lists head) n) area spots′ used spots″ left) where
+      pub comes-out : standing area spots″ left ≡ mergedIn area cards lists head n p
+      comes-out = f .kept ∙ ap (keep (comesOut (storeIn area cards lists head) n)) (gathers .shown) ∙ sym (merged-by area cards g b lists head n p t)
 
       pub stand : used ≤ length spots″ → Stand area spots″ left
       stand l = record {
         inside = omega (arith, f .few);
         seated = f .seated;
-        keys = rw comes-out (merged-rising area cards g b n p t);
-        values = rw comes-out (merged-values area cards g b n p t);
+        keys = rw comes-out (merged-rising area cards g b lists head n p t);
+        values = rw comes-out (merged-values area cards g b lists head n p t);
       }

@@ -1,6 +1,7 @@
 -- The entries that come out of a merge are rising, valid and at most as many as are read, so that at most `mergeTables` tables come out; and the tables, one by one.
 use Prim.Native.Nat.{ℕ, _*_, zero, suc, _≤_, _^_}
 use mathlib.Core.Path.{_≡_, refl, ap}
+use mathlib.Core.Bool.{Bool}
 use mathlib.Core.List.{List, [], _∷_, List·Memᴰ·head}
 use native.Mathlib.Omega.{arith}
 use lib.ListN.{length, take, drop, length-drop}
@@ -10,14 +11,16 @@ use Rattle.table.specs.Entry.{Entry}
 use Rattle.table.specs.Table.{tableBytes}
 use Rattle.table.specs.Valid.{Keys, Values}
 use Rattle.table.proofs.Decode.{valid-size}
-use Rattle.ldc.specs.Store.{sources}
+use Rattle.ldc.specs.Lists.{keep}
+use Rattle.ldc.specs.Store.{card, links, bytesAt, table, slice, sources}
+use Rattle.ldc.specs.Lent.{storeOf}
 use Rattle.ldc.specs.Read.{gather}
-use Rattle.ldc.specs.Tidy.{cutIn, cut, mergedEntries, mergedTables}
+use Rattle.ldc.specs.Tidy.{cutIn, cut, comesOut, mergedEntries, mergedTables}
 use Rattle.ldc.proofs.Entries.Cut.{cut-pieces, cut-few}
 use Rattle.ldc.proofs.Entries.Few.{keep-few, gather-few, valid-keys, valid-values}
 use Rattle.ldc.proofs.Entries.Keys.{keys-gather, keys-keep, values-gather, values-keep}
 use Rattle.read.specs.Shown.{Tabled, Legible}
-use Rattle.compact_merge.specs.Merge.{mergeTables, staysOn, mergedIn, tablesOut}
+use Rattle.compact_merge.specs.Merge.{mergeTables, storeIn, mergedIn, tablesOut}
 use Rattle.compact_merge.proofs.Sources.{sources-valid, sources-few}
 use Rattle.book.specs.Rows.{shownBy}
 
@@ -54,30 +57,34 @@ piece-long es k v h =
 
 -- ---- what comes out
 
-pub tables-cut : (area : List ℕ) (cards : List (List ℕ)) (n p : ℕ) → tablesOut area cards n p ≡ cut (mergedIn area cards n p)
+pub tables-cut : (area : List ℕ) (cards : List (List ℕ)) (lists head : List ℕ) (n p : ℕ) → tablesOut area cards lists head n p ≡ cut (mergedIn area cards lists head n p)
 unfolding mergedTables
-tables-cut area cards n p = refl
+tables-cut area cards lists head n p = refl
 
-module _ (area : List ℕ) (cards : List (List ℕ)) (g : Legible area cards) (b : Bytes area) (n p : ℕ) (t : Tabled area p) where
-  pub merged-rising : Keys 0 (2 ^ 64) (mergedIn area cards n p)
-  unfolding mergedEntries
-  merged-rising =
-      let ss = sources (shownBy area cards) p in
-      keys-keep 0 (2 ^ 64) (staysOn n) (gather ss) (keys-gather 0 (2 ^ 64) ss (valid-keys ss (sources-valid area cards g b p t)))
+module _ (area : List ℕ) (cards : List (List ℕ)) (g : Legible area cards) (b : Bytes area) (lists head : List ℕ) (n p : ℕ) (t : Tabled area p) where
+  abbrev test : Entry → Bool
+  test = comesOut (storeIn area cards lists head) n
 
-  pub merged-values : Values (mergedIn area cards n p)
-  unfolding mergedEntries
-  merged-values =
-      let ss = sources (shownBy area cards) p in
-      values-keep (staysOn n) (gather ss) (values-gather ss (valid-values ss (sources-valid area cards g b p t)))
+  -- The lists do not say what is read of a table.
+  pub merged-by : mergedIn area cards lists head n p ≡ keep (comesOut (storeIn area cards lists head) n) (gather (sources (shownBy area cards) p))
+  unfolding mergedEntries sources slice table links card bytesAt storeOf
+  merged-by = refl
 
-  merged-few : length (mergedIn area cards n p) ≤ mergeTables * tableLimit
-  unfolding mergedEntries
+  abbrev ss : List (List Entry)
+  ss = sources (shownBy area cards) p
+
+  pub merged-rising : Keys 0 (2 ^ 64) (mergedIn area cards lists head n p)
+  merged-rising = rw merged-by (keys-keep 0 (2 ^ 64) test (gather ss) (keys-gather 0 (2 ^ 64) ss (valid-keys ss (sources-valid area cards g b p t))))
+
+  pub merged-values : Values (mergedIn area cards lists head n p)
+  merged-values = rw merged-by (values-keep test (gather ss) (values-gather ss (valid-values ss (sources-valid area cards g b p t))))
+
+  merged-few : length (mergedIn area cards lists head n p) ≤ mergeTables * tableLimit
   merged-few =
-      let ss = sources (shownBy area cards) p in
-      omega (arith, keep-few (staysOn n) (gather ss), gather-few ss (sources-valid area cards g b p t), sources-few area cards g b p t)
+      rw merged-by
+      (omega (arith, keep-few test (gather ss), gather-few ss (sources-valid area cards g b p t), sources-few area cards g b p t))
 
   -- At most so many tables come out.
-  pub tables-few : length (tablesOut area cards n p) ≤ mergeTables
+  pub tables-few : length (tablesOut area cards lists head n p) ≤ mergeTables
   unfolding mergedTables
-  tables-few = omega (arith, merged-few, cut-few (mergedIn area cards n p))
+  tables-few = omega (arith, merged-few, cut-few (mergedIn area cards lists head n p))

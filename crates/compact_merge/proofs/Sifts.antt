@@ -1,21 +1,18 @@
 -- Spots of entries that pass a test, moved to the front one by one: what passed of the first i, and what will of the others, is all that
--- passes. And the test of a merge.
+-- passes.
 use Prim.Native.Nat.{ℕ, suc, _+_, _≤_, _<_}
 use mathlib.Core.Path.{_≡_, refl, sym, _∙_, ap}
-use mathlib.Core.Bool.{Bool, cond, not, _||_}
+use mathlib.Core.Bool.{Bool, cond}
 use mathlib.Core.List.{List, [], _∷_, _++_, map, append-assoc, append-nil, map-append}
 use native.Mathlib.Omega.{arith}
 use native.Mathlib.Numerals.{add-one}
-use lib.Dec.{eqb}
 use lib.ListN.{length, take, drop, getD, set, length-set, length-map, List·getD-map, drop-of-length-le}
 use lib.Seq.{drop-cons, getD-take, length-take-le, take-suc-set, take-set-le}
-use Rattle.table.specs.Entry.{Entry, entryAt, entryOf, kindAt}
+use Rattle.table.specs.Entry.{Entry, entryAt}
 use Rattle.ldc.specs.Lists.{keep}
-use Rattle.ldc.specs.Tidy.{dropsMark}
 use Rattle.ldc.proofs.Basics.Cases.{cases}
 use Rattle.read_gather.specs.Gathered.{SeatedIn, AllSeated}
 use Rattle.read_gather.proofs.Means.{seated-get, seated-more, same-at, same-behind}
-use Rattle.compact_merge.specs.Merge.{staysOn}
 use Rattle.compact_merge.specs.Spots.{standing, Sifted}
 
 -- The first `kept` of the spots are what passed of the first i.
@@ -89,12 +86,3 @@ module _ (test : Entry → Bool) (bytes spots₀ : List ℕ) (n : ℕ) (inside :
                 ∙ ap (λ (l : List ℕ). map f l ++ keep test (drop (i + 1) S)) (sym taken);
             seated = rw taken (s .seated);
           }))
-
--- ---- the test of a merge
-
--- The test of the code is that of the definition.
-pub stays-test : (bytes : List ℕ) (at n kind : ℕ) (drops : Bool) → kind ≡ kindAt bytes at → ((mark : Entry) → drops ≡ dropsMark n mark)
-    → (not (eqb kind 2) || not drops) ≡ staysOn n (entryAt bytes at)
-unfolding entryAt entryOf
-stays-test bytes at n kind drops hk hd =
-    rw (hk, hd (entryAt bytes at)) (cases (eqb (kindAt bytes at) 2) (λ q. rw q) (λ q. rw q))

@@ -3,16 +3,20 @@
 // Nothing here changes the store. The entries of the table and of its links' slices are gathered once, sorted by key, and read where they
 // stand when they are written.
 ghost use mathlib.Core.Path.{_≡_};
-ghost use Prim.Native.Nat.{_*_, _≤_};
+ghost use Prim.Native.Nat.{_*_, _≤_, _<_};
 ghost use lib.ListN.{length, take, drop};
 ghost use lib.Seq.{sets};
 ghost use Rattle.table.specs.Limits.{placeSize, tableLimit};
 ghost use Rattle.table.specs.Table.{tableBytes};
+ghost use Rattle.ldc.specs.Layout.{levelCount};
 ghost use Rattle.ldc.specs.Tidy.{cut};
-ghost use Rattle.read.specs.Shown.{Tabled, Legible};
+ghost use Rattle.book.specs.Head.{headWords};
+ghost use Rattle.read.specs.Look.{Levels};
+ghost use Rattle.read.specs.Shown.{Tabled};
 ghost use Rattle.compact_merge.specs.Merge.{mergeTables, mergeEntries, bytesOut, tablesOutOf};
 ghost use Rattle.compact_merge.specs.Spots.{standingIn, Stand};
 use super::sift;
+use book::head::Head;
 use book::limits::LINK_LIMIT;
 use book::row::Row;
 use coding::key::Key;
@@ -72,6 +76,8 @@ fn write_tables(area: &[u8], spots: &[u64], n: usize, out: &mut [u8]) -> usize
 fn merge_with(
     area: &[u8],
     cards: &[Row],
+    lists: &[u16],
+    head: Head,
     n: usize,
     p: usize,
     keys: &mut [u64],
@@ -79,30 +85,52 @@ fn merge_with(
     out: &mut [u8],
 ) -> usize
     requires { ⌜
-        Legible (now area) (now cards)
+        Levels (now area) (now cards) (now lists) (headWords head)
+        × ((n < levelCount)
         × (Tabled (now area) p
         × ((length (now out) ≡ mergeTables * placeSize)
-        × ((length (now keys) ≡ mergeEntries) × (length (now spots) ≡ mergeEntries))))
+        × ((length (now keys) ≡ mergeEntries) × (length (now spots) ≡ mergeEntries)))))
         ⌝ }
     ensures { λ r. ⌜
-        (r ≡ length (tablesOutOf area cards n p))
-        × (now (out .exit) ≡ sets (now (out .entry)) 0 (bytesOut (tablesOutOf area cards n p)))
+        (r ≡ length (tablesOutOf area cards lists head n p))
+        × (now (out .exit) ≡ sets (now (out .entry)) 0 (bytesOut (tablesOutOf area cards lists head n p)))
         ⌝ }
 {
     let used = sources::in_sources(area, cards, p, Key::LEAST, Key::GREATEST, keys, spots, 0);
-    let left = sift::sift(area, n, spots, used);
+    let left = sift::sift(area, cards, lists, head, n, spots, used);
     write_tables(area, spots, left, out)
 }
 
 // The tables that come out of the merge of p on level n, one after the other from the buffer's start on; how many they are.
-pub fn merge_into(area: &[u8], cards: &[Row], n: usize, p: usize, out: &mut [u8]) -> usize
-    requires { ⌜ Legible (now area) (now cards) × (Tabled (now area) p × (length (now out) ≡ mergeTables * placeSize)) ⌝ }
+pub fn merge_into(
+    area: &[u8],
+    cards: &[Row],
+    lists: &[u16],
+    head: Head,
+    n: usize,
+    p: usize,
+    out: &mut [u8],
+) -> usize
+    requires { ⌜
+        Levels (now area) (now cards) (now lists) (headWords head)
+        × ((n < levelCount) × (Tabled (now area) p × (length (now out) ≡ mergeTables * placeSize)))
+        ⌝ }
     ensures { λ r. ⌜
-        (r ≡ length (tablesOutOf area cards n p))
-        × (now (out .exit) ≡ sets (now (out .entry)) 0 (bytesOut (tablesOutOf area cards n p)))
+        (r ≡ length (tablesOutOf area cards lists head n p))
+        × (now (out .exit) ≡ sets (now (out .entry)) 0 (bytesOut (tablesOutOf area cards lists head n p)))
         ⌝ }
 {
     let mut keys = [0u64; MERGE_ENTRIES];
     let mut spots = [0u64; MERGE_ENTRIES];
-    merge_with(area, cards, n, p, &mut keys[..], &mut spots[..], out)
+    merge_with(
+        area,
+        cards,
+        lists,
+        head,
+        n,
+        p,
+        &mut keys[..],
+        &mut spots[..],
+        out,
+    )
 }

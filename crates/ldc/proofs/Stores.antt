@@ -13,6 +13,7 @@
 --   Release      what releasing frozen places leaves
 --   Spans        what is read of a table lies in its span; spans rise
 --   Order        the read order in its parts
+--   Lower        lower-lying levels: nothing is read there under a key that no span holds
 --   ReadOrder    what is read is valid
 --   TakenOut     a level with one table taken out and read after it
 --   New          a new store is sound
@@ -31,6 +32,7 @@ pub mod Hang
 pub mod Release
 pub mod Spans
 pub mod Order
+pub mod Lower
 pub mod ReadOrder
 pub mod TakenOut
 pub mod New

@@ -1,11 +1,11 @@
--- The checked examples P1 to P10 of document 01, and one for note 2 of document 02, as one table: what the definition computes beside
+-- The checked examples P1 to P10 of document 01, and those of notes 2 and 5 of document 02, as one table: what the definition computes beside
 -- what the papers say; a second table with a case for each slip, and a third with the letters of damaged memory.
 -- `proofs/Demand/Examples` shows that each row agrees. What is expected stands in plain numbers, as in document 01.
 use Prim.Native.Nat.{ℕ, zero, suc, _+_, _-_, _%_}
 use mathlib.Core.List.{List, [], _∷_, _++_, map}
 use mathlib.Core.Bool.{Bool, true, cond, _&&_}
 use mathlib.Core.Option.{some, none, Option·getD}
-use lib.ListN.{length, getD, replicate}
+use lib.ListN.{length, getD, take, replicate}
 use Rattle.coding.specs.Number.{bytesOf}
 use Rattle.table.specs.Limits.{placeSize}
 use Rattle.table.specs.Entry.{Entry}
@@ -78,8 +78,22 @@ plantedWith t tables cards levels = record {
   memory = [];
 }
 
+abbrev entry : ℕ → ℕ → Entry
+entry k v = record { key = k; value = some (v ∷ []) }
+
 abbrev tableOf : List ℕ → List Entry
-tableOf ks = map (λ k. record { key = k; value = some (65 ∷ []) }) ks
+tableOf ks = map (λ k. entry k 65) ks
+
+abbrev deleted : ℕ → Entry
+deleted k = record { key = k; value = none }
+
+-- A link to one entry of a place.
+abbrev single : (place low high : ℕ) → Link
+single p low high = record { place = p; low = low; high = high; number = 1 }
+
+-- Keys of the first table of a level.
+abbrev firstKeys : Store → ℕ → List ℕ
+firstKeys s n = map (λ (e : Entry). e .key) (table s (getD (level s n) 0 0))
 
 -- Level 1 has the tables 10..20, 30..40 and 50..60 in places 1, 2, 3, and place 0 is live on level 0 with these keys.
 abbrev planted : (threshold : ℕ) → List ℕ → Store
@@ -137,6 +151,21 @@ weighed n =
     let v : Served = from weighing (replicate n askTidy) in
     reply v ++ (cond (due (v .store) 0) 1 0 ∷ map (λ (l : Link). l .number) (links (v .store) 0))
 
+-- T is 1; level 1 has a table of these delete marks and a link to a place with one more, under 20; level 2 has the keys 1 and 3 with a
+-- link 6 to 10, so the span 1 to 10, and level 3 the key 30.
+abbrev marked : List ℕ → Store
+marked ks =
+    plantedWith 1
+    (map deleted ks ∷ (deleted 20 ∷ []) ∷ tableOf (1 ∷ 3 ∷ []) ∷ tableOf (8 ∷ []) ∷ tableOf (30 ∷ []) ∷ [])
+    (live (single 1 0 greatest ∷ []) ∷ frozen ∷ live (single 3 6 10 ∷ []) ∷ frozen ∷ live [] ∷ [])
+    ([] ∷ (0 ∷ []) ∷ (2 ∷ []) ∷ (4 ∷ []) ∷ [])
+
+-- After a tidy: its reply, how many tables level 1 has, and the keys of the first.
+abbrev sifted : List ℕ → List ℕ
+sifted ks =
+    let v : Served = from (marked ks) (askTidy ∷ []) in
+    reply v ++ (length (level (v .store) 1) ∷ firstKeys (v .store) 1)
+
 unfoldable pub examples : List Example
 examples =
     -- P1 look up in a new store: 64
@@ -174,23 +203,16 @@ examples =
     ∷ record { computed = weighed 1; expected = 0 ∷ 2 ∷ 0 ∷ 0 ∷ 0 ∷ 0 ∷ 1 ∷ [] }
     ∷ record { computed = weighed 2; expected = 0 ∷ 2 ∷ 0 ∷ 0 ∷ 0 ∷ 1 ∷ 1 ∷ 2 ∷ [] }
     ∷ record { computed = weighed 3; expected = 0 ∷ 3 ∷ 0 ∷ 1 ∷ 0 ∷ 0 ∷ [] }
+    -- document 02, note 5: marks stay under 1 and 10, the ends of a span, 5, in it but in no range, and 30, two levels down; 0, 11 and 20 go
+    ∷ record {
+      computed = sifted (0 ∷ 1 ∷ 5 ∷ 10 ∷ 11 ∷ 30 ∷ []);
+      expected = 0 ∷ 3 ∷ 0 ∷ 1 ∷ 0 ∷ 1 ∷ 1 ∷ 5 ∷ 10 ∷ 30 ∷ [];
+    }
+    -- where all marks go, nothing comes out
+    ∷ record { computed = take 6 (sifted (11 ∷ [])); expected = 0 ∷ 3 ∷ 0 ∷ 1 ∷ 0 ∷ 0 ∷ [] }
     ∷ []
 
 -- ---- the slips that this store invites (document 01), each with a case that it would get wrong
-
-abbrev entry : ℕ → ℕ → Entry
-entry k v = record { key = k; value = some (v ∷ []) }
-
-abbrev deleted : ℕ → Entry
-deleted k = record { key = k; value = none }
-
--- A link to one entry of a place.
-abbrev single : (place low high : ℕ) → Link
-single p low high = record { place = p; low = low; high = high; number = 1 }
-
--- Keys of the first table of a level.
-abbrev firstKeys : Store → ℕ → List ℕ
-firstKeys s n = map (λ (e : Entry). e .key) (table s (getD (level s n) 0 0))
 
 unfoldable pub slips : List Example
 slips =

@@ -14,7 +14,7 @@
 --   Run        splitting a list, serving it, run, check and make, with numbers 1 to 5 by name
 --   History    histories, the latest-write map, the slice list, where a history starts, and `Demand3`
 --   Facts      rising spans, a table to be merged or taken down, the sizes of the lent pieces: what contracts of the code name
---   Examples   P1 to P10, the example of note 2, a case for each slip, and the letters of damaged memory
+--   Examples   P1 to P10, examples of notes 2 and 5, a case for each slip, and the letters of damaged memory
 pub mod Lists
 pub mod Store
 pub mod Rules

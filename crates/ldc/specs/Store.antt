@@ -122,6 +122,10 @@ spanStart s p = leastEnd (leastKey (table s p)) (links s p)
 unfoldable pub spanEnd : Store → ℕ → ℕ
 spanEnd s p = greatestEnd (greatestKey (table s p)) (links s p)
 
+-- Does a table's span hold a key?
+unfoldable pub spanHolds : Store → (place key : ℕ) → Bool
+spanHolds s p k = leb (spanStart s p) k && leb k (spanEnd s p)
+
 -- What is to be read of a table, newest first: its slices, then its own entries.
 unfoldable pub sources : Store → ℕ → List (List Entry)
 sources s p = map (slice s) (reverse (links s p)) ++ (table s p ∷ [])

@@ -1,15 +1,15 @@
 -- Tidy: what step is due. It is named first and done afterwards (`Step`); reply, store and slice list come from that one name.
 use Prim.Native.Nat.{ℕ, zero, suc, _+_, _*_, _^_, _-_}
 use mathlib.Core.List.{List, [], _∷_, _++_, map}
-use mathlib.Core.Bool.{Bool, true, cond, not, _||_}
+use mathlib.Core.Bool.{Bool, cond, not, _||_}
 use mathlib.Core.Option.{Option, some, none}
-use lib.Dec.{leb, ltb, eqb}
+use lib.Dec.{leb, ltb}
 use lib.ListN.{length, getD, take, drop}
 use Rattle.table.specs.Limits.{tableLimit}
 use Rattle.table.specs.Entry.{Entry}
 use Rattle.table.specs.Search.{leastKey}
-use Rattle.ldc.specs.Lists.{keep, first, isEmpty}
-use Rattle.ldc.specs.Store.{Link, Store, lastLevel, level, links, table, mark, sources, spanEnd, within}
+use Rattle.ldc.specs.Lists.{any, keep, first, flat, isEmpty}
+use Rattle.ldc.specs.Store.{Link, Store, level, links, table, mark, sources, spanEnd, spanHolds, within}
 use Rattle.ldc.specs.Read.{gather, holdsValue}
 use Rattle.ldc.specs.Place.{freePlaces}
 
@@ -30,13 +30,21 @@ pub data Step : Type 0 where
 
 -- ---- merge: what comes out
 
--- Does a merge on this level drop this delete mark?
-unfoldable pub dropsMark : (level : ℕ) → Entry → Bool
-dropsMark n e = eqb n lastLevel
+-- The tables on lower-lying levels: those of greater number, all of them. Below level 3 there are none.
+unfoldable pub lowerTables : Store → (level : ℕ) → List ℕ
+lowerTables s n = flat (drop (suc n) (s .levels))
 
--- The table's entries and those in its links' ranges, one for each key, the newer winning, without the marks that are dropped.
+-- A merge on any level drops a delete mark exactly if no table on a lower-lying level has a span holding its key.
+unfoldable pub dropsMark : Store → (level : ℕ) → Entry → Bool
+dropsMark s n e = not (any (λ p. spanHolds s p (e .key)) (lowerTables s n))
+
+-- A value comes out, and a delete mark that is not dropped.
+unfoldable pub comesOut : Store → (level : ℕ) → Entry → Bool
+comesOut s n e = holdsValue e || not (dropsMark s n e)
+
+-- The table's entries and those in its links' ranges, one for each key, the newer winning, as far as they come out.
 unfoldable pub mergedEntries : Store → (level place : ℕ) → List Entry
-mergedEntries s n p = keep (λ e. cond (holdsValue e) true (not (dropsMark n e))) (gather (sources s p))
+mergedEntries s n p = keep (comesOut s n) (gather (sources s p))
 
 -- Cut into tables of 16, the last shorter. (The first number only bounds how many tables there can be.)
 abbrev pub cutIn : ℕ → List Entry → List (List Entry)

@@ -3,6 +3,7 @@
 --   Shows     what legible area and cards show
 --   Hits      what was found, and one turn of the walks that go newest first
 --   Rank      the search of a level
+--   Holds     whether a span of a level holds a key
 --   Levels    the levels of kept memory, and the read order
 --   Walks     the walk over levels 1 to 3, and values
 --   Spots     where the answer of a look-up stands, and its reply
@@ -10,6 +11,7 @@ pub mod Pieces
 pub mod Shows
 pub mod Hits
 pub mod Rank
+pub mod Holds
 pub mod Levels
 pub mod Walks
 pub mod Spots

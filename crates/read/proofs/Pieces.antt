@@ -50,7 +50,7 @@ links-shown m p =
 -- ---- lists and rows of kept memory
 
 -- A level's list is the items in use of its part of the lists.
-level-part : (m : Lent) (n : ℕ) → n < levelCount → level (storeOf m) n ≡ itemsIn (placesIn (m .area)) (m .lists) (m .head) n
+pub level-part : (m : Lent) (n : ℕ) → n < levelCount → level (storeOf m) n ≡ itemsIn (placesIn (m .area)) (m .lists) (m .head) n
 unfolding level storeOf levelOf
 level-part m zero h = refl
 level-part m (suc zero) h = refl

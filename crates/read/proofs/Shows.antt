@@ -1,5 +1,5 @@
 -- What legible area and cards show: tables are parts of the area, links are words of the rows.
-use Prim.Native.Nat.{ℕ, suc, _+_, _*_, _-_, _≤_, _<_, max}
+use Prim.Native.Nat.{ℕ, suc, _+_, _*_, _-_, _≤_, _<_, min, max}
 use mathlib.Core.Path.{_≡_, sym, _∙_, ap}
 use mathlib.Core.Bool.{true}
 use mathlib.Core.List.{List, [], _∷_}
@@ -19,7 +19,7 @@ use Rattle.table.proofs.Tests.{cases}
 use Rattle.table.proofs.Position.{table-memory, table-good}
 use Rattle.table.proofs.Encode.{shows-valid}
 use Rattle.table.proofs.Entries.{length-entries}
-use Rattle.ldc.specs.Store.{Link, table, links, slice, within, greatestEnd}
+use Rattle.ldc.specs.Store.{Link, table, links, slice, within, leastEnd, greatestEnd}
 use Rattle.ldc.specs.Lent.{placesIn}
 use Rattle.ldc.proofs.Stores.Spans.{Readable}
 use Rattle.ldc.specs.Layout.{linkCount, linkAt}
@@ -89,7 +89,7 @@ module _ (area : List ℕ) (cards : List (List ℕ)) (g : Legible area cards) wh
         rw (links-shown (lent area cards [] [] []) p)
         (link-of (getD cards p []) i d (omega (arith, count-of (getD cards p []) (g .rowed p h) (g .counted p h))))
 
--- ---- the end of a span
+-- ---- the ends of a span
 
 -- One turn: the greatest of this link's ends and those so far.
 ends-max : (a b : ℕ) (ls : List Link) → greatestEnd (max a b) ls ≡ max b (greatestEnd a ls)
@@ -114,3 +114,16 @@ module _ (k e : ℕ) (ls : List Link) (i : ℕ) (d : Link) (h : i < length ls) w
 
   pub reach-here : k ≤ max (getD ls i d .low) (getD ls i d .high) → leb k (greatestEnd e (drop i ls)) ≡ true
   reach-here b = rw (drop-cons ls i d h) (le-leb k _ (omega arith))
+
+  -- The same of where it starts.
+  pub start-turn : k < min (getD ls i d .low) (getD ls i d .high) → leb (leastEnd e (drop i ls)) k ≡ leb (leastEnd e (drop (i + 1) ls)) k
+  start-turn b =
+      let rest : ℕ = leastEnd e (drop (suc i) ls) in
+      let here : ℕ = min (getD ls i d .low) (getD ls i d .high) in
+      rw (add-one i, drop-cons ls i d h)
+      (cases (leb rest k)
+      (λ q. rw q (le-leb (min here rest) k (omega (arith, leb-true rest k q))))
+      (λ q. rw q (lt-leb (min here rest) k (omega (arith, leb-false rest k q)))))
+
+  pub start-here : min (getD ls i d .low) (getD ls i d .high) ≤ k → leb (leastEnd e (drop i ls)) k ≡ true
+  start-here b = rw (drop-cons ls i d h) (le-leb _ k (omega arith))

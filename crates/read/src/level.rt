@@ -1,10 +1,12 @@
-// One level below 0: where a table's span ends, whether it reaches a key, and how many tables a key has reached or passed.
+// One level below 0: where a table's span ends, whether it reaches a key or starts by it, how many tables a key has reached or passed, and
+// whether a span holds it.
 ghost use mathlib.Core.Path.{_≡_};
 ghost use Prim.Native.Nat.{_+_, _≤_, _<_};
 ghost use lib.Dec.{leb};
 ghost use lib.ListN.{length, getD};
 ghost use Rattle.table.specs.Search.{leastKey};
-ghost use Rattle.ldc.specs.Store.{spanEnd};
+ghost use Rattle.ldc.specs.Lists.{any};
+ghost use Rattle.ldc.specs.Store.{spanStart, spanEnd, spanHolds};
 ghost use Rattle.read.specs.Shown.{shownIn, Tabled, Legible, Rising, tableIn};
 ghost use Rattle.read.specs.Level.{rank};
 use super::place;
@@ -48,6 +50,24 @@ pub fn reaches(area: &[u8], cards: &[Row], p: usize, key: Key) -> bool
     key.at_most(place::greatest(area, p))
 }
 
+// Does a table's span start at a key, or below it?
+fn starts_by(area: &[u8], cards: &[Row], p: usize, key: Key) -> bool
+    requires { ⌜ Legible (now area) (now cards) × Tabled (now area) p ⌝ }
+    ensures { λ r. ⌜ r ≡ leb (spanStart (shownIn area cards) p) (key .value) ⌝ }
+{
+    let links = row::link_count(&cards[p]) as usize;
+    let mut i = 0;
+    while i < links {
+        let link = row::link_at(&cards[p], i);
+        let low = link.low;
+        if low.lesser(link.high).at_most(key) {
+            return true;
+        }
+        i += 1;
+    }
+    place::least(area, p).at_most(key)
+}
+
 // How many tables have a least key of at most this one: as many as it has passed, or one more, whose span may reach it. The next has a
 // greater one.
 pub fn count_reached(area: &[u8], cards: &[Row], items: &[u16], key: Key) -> usize
@@ -87,4 +107,16 @@ pub fn count_passed(area: &[u8], cards: &[Row], items: &[u16], key: Key) -> usiz
     } else {
         end
     }
+}
+
+// Does the span of one of the tables hold a key? Of those that it has not passed only the first can.
+pub fn holds(area: &[u8], cards: &[Row], items: &[u16], key: Key) -> bool
+    requires { ⌜ Legible (now area) (now cards) × Rising (now area) (now cards) (now items) ⌝ }
+    ensures { λ r. ⌜ r ≡ any (λ p. spanHolds (shownIn area cards) p (key .value)) (now (items .entry)) ⌝ }
+{
+    let at = count_passed(area, cards, items, key);
+    if items.len() <= at {
+        return false;
+    }
+    starts_by(area, cards, items[at] as usize, key)
 }

@@ -18,7 +18,8 @@ abbrev pub ranges : (low high : ℕ) → List (List Entry) → List (List Entry)
 ranges low high sources = map (within low high) sources
 
 -- The sources were taken in: of the arrays n were in use, r are now. The bytes go on behind the area, as with the memory table.
-pub record TakenAll (area : List ℕ) (sources : List (List Entry)) (keys spots : List ℕ) (n : ℕ) (keys′ spots′ : List ℕ) (r : ℕ) : Type 0 where
+pub record TakenAll (area : List ℕ) (sources : List (List Entry)) (keys spots : List ℕ) (n : ℕ) (keys′ spots′ : List ℕ) (r : ℕ)
+    : Type 0 where
   pub inside : r ≤ length keys
   pub rises : Rises 0 (take r keys′)
   pub gathers : (behind : List ℕ) (es : List Entry) → Gathers (area ++ behind) keys spots n es

@@ -8,6 +8,7 @@ mod letters;
 mod longer_values;
 mod merge_by_weight;
 mod numbers;
+mod old_marks;
 mod opening;
 mod reading;
 mod refusals;

@@ -85,7 +85,7 @@ fn a_merge_on_level_3_drops_delete_marks_and_may_leave_no_table() {
 }
 
 #[test]
-fn a_merge_above_level_3_keeps_delete_marks() {
+fn a_merge_keeps_a_delete_mark_over_an_older_value() {
     // A value of key 5 stands on level 2, and its delete mark comes down to level 1.
     let mut store = Client::with_tables(16, 1, &[(2, &[5]), (1, &[10])]);
     store.ask(&[Ask::Delete(5), Ask::Flush]);
@@ -144,12 +144,12 @@ fn a_merge_wants_places_for_what_is_left_after_the_newer_won() {
 }
 
 #[test]
-fn a_merge_on_level_3_wants_no_place_for_delete_marks() {
-    let mut store = one_place_free(3, &marks(21..=36));
-    assert_eq!(store.ask_one(Ask::Tidy), Reply::Step(3, 3));
-    assert_eq!(store.lent.place(15), table(&(1..=16).collect::<Vec<u64>>()));
-    // On level 2 they stay and want one.
-    assert_eq!(one_place_free(2, &marks(21..=36)).ask_in_vain(Ask::Tidy), Reply::Not(20));
+fn a_merge_wants_no_place_for_delete_marks_that_go() {
+    for level in 1..=3 {
+        let mut store = one_place_free(level, &marks(21..=36));
+        assert_eq!(store.ask_one(Ask::Tidy), Reply::Step(3, level as u16));
+        assert_eq!(store.lent.place(15), table(&(1..=16).collect::<Vec<u64>>()));
+    }
 }
 
 #[test]

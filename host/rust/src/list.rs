@@ -70,7 +70,7 @@ impl List {
         self.add(&Request::Put(key.into(), value.to_vec()))
     }
 
-    /// Adds a delete.
+    /// Adds a delete. It leaves a delete mark, until a merge finds no span below that holds its key.
     pub fn delete(&mut self, key: impl Into<Key>) -> Result<&mut List, ListError> {
         self.add(&Request::Delete(key.into()))
     }

@@ -139,7 +139,8 @@ impl<'a> Store<'a> {
         self.one(|list| list.put(key, value)).map(|_| ())
     }
 
-    /// Takes the value under a key away, if there is one.
+    /// Takes the value under a key away, if there is one. A delete mark stays, until a merge finds no span below that holds its key
+    /// ([`View::drops_mark`](crate::View::drops_mark)).
     pub fn delete(&mut self, key: impl Into<Key>) -> Result<(), Error> {
         self.one(|list| list.delete(key)).map(|_| ())
     }

@@ -126,6 +126,45 @@ impl View {
         table.links.len() as u64 >= self.threshold || table.weight() >= table.entries.len()
     }
 
+    /// The entries of a frozen table that a link holds.
+    pub fn slice(&self, link: &Link) -> &[Entry] {
+        let found = self.frozen.binary_search_by_key(&link.place, |table| table.place);
+        let entries = found.map_or(&[][..], |at| &self.frozen[at].entries);
+        let from = entries.partition_point(|entry| entry.key < link.low);
+        let until = entries.partition_point(|entry| entry.key <= link.high);
+        &entries[from..until.max(from)]
+    }
+
+    /// How many delete marks wait on a level: in its tables, and in the slices that its links hold.
+    pub fn delete_marks(&self, level: usize) -> usize {
+        let waiting = |table: &Table| {
+            let slices = table.links.iter().flat_map(|link| self.slice(link));
+            slices.chain(&table.entries).filter(|entry| entry.value.is_none()).count()
+        };
+        self.levels[level].iter().map(waiting).sum()
+    }
+
+    /// Whether a merge on a level would drop a delete mark under this key: no table on a level of greater number has a span that
+    /// holds it.
+    ///
+    /// ```
+    /// use zilgwern::{Key, Store};
+    ///
+    /// let mut store = Store::owned(16, 4)?;
+    /// store.put(5, b"A")?;
+    /// store.flush()?;
+    /// store.delete(5)?;
+    /// store.flush()?;
+    /// // On level 3, and wherever nothing lies below, every mark goes.
+    /// assert!(store.view().drops_mark(1, Key(5)));
+    /// assert_eq!(store.view().delete_marks(0), 1);
+    /// # Ok::<(), zilgwern::Error>(())
+    /// ```
+    pub fn drops_mark(&self, level: usize, key: Key) -> bool {
+        let mut lower = self.levels[level + 1..].iter().flatten();
+        !lower.any(|table| (table.span().0..=table.span().1).contains(&key))
+    }
+
     /// The level and the place of each table with a link to this place.
     pub fn linked_from(&self, place: usize) -> Vec<(usize, usize)> {
         let levels = self.levels.iter().enumerate();

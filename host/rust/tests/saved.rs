@@ -77,7 +77,7 @@ fn some_store(random: &mut Random, places: usize, steps: u64) -> Store<'static> 
 fn what_is_saved_is_opened_as_it_was_and_saved_as_the_same_bytes() {
     let mut random = Random(7);
     let mut reached = [0; 4];
-    for round in 0..24 {
+    for round in 0..36 {
         let places = 16 + random.below(100) as usize;
         let mut store = some_store(&mut random, places, 50 * round);
         let (before, view, book) = (store.memory(), store.view(), store.save().unwrap());

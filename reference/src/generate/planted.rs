@@ -35,6 +35,15 @@ pub(super) struct Garden<'a> {
 
 /// Plants a store of so many places with keys of this set.
 pub fn planted(random: &mut Random, places: usize, keys: Keys) -> Store {
+    plant(random, places, keys, false)
+}
+
+/// The same where half of the entries or more are delete marks, on all levels.
+pub fn planted_with_marks(random: &mut Random, places: usize, keys: Keys) -> Store {
+    plant(random, places, keys, true)
+}
+
+fn plant(random: &mut Random, places: usize, keys: Keys, rich_in_marks: bool) -> Store {
     let threshold = 1 + random.below(CARD_LINKS);
     let store = new_store(random.bytes(places * PLACE_BYTES), threshold);
     let mut ground: Vec<usize> = (0..places).collect();
@@ -44,6 +53,7 @@ pub fn planted(random: &mut Random, places: usize, keys: Keys) -> Store {
     ground.truncate(places - spare);
     let lengths = Lengths::drawn(random);
     let marks_in_eight = match lengths {
+        _ if rich_in_marks => *random.pick(&[4, 6, 7, 8]),
         Lengths::Any => *random.pick(&[1, 2, 2, 6, 8]),
         Lengths::Longest => 0,
     };

@@ -17,10 +17,12 @@ pub struct Profile {
     pub tidies: usize,
     pub reports: usize,
     pub refused: usize,
-    /// Bursts of puts with a flush and some tidies after them.
+    /// Bursts of writes with a flush and some tidies after them.
     pub loads: usize,
     /// The most keys of one load.
     pub load_keys: usize,
+    /// Of eight keys of a load so many are deleted and not put.
+    pub load_deletes: usize,
     /// The most tidies after one load.
     pub load_tidies: usize,
 }
@@ -37,6 +39,7 @@ const STEADY: Profile = Profile {
     refused: 2,
     loads: 0,
     load_keys: 1,
+    load_deletes: 0,
     load_tidies: 0,
 };
 
@@ -52,6 +55,20 @@ pub const PROFILES: [Profile; 5] = [
     // Tidies above all, and reads between them.
     Profile { name: "tidying", puts: 30, tidies: 90, flushes: 10, refused: 8, ..STEADY },
 ];
+
+/// Deletes above all, in loads too, and tidies enough for most of the marks to be merged. It is not
+/// among the others: the histories that these give by their seeds stay as they are.
+pub const DELETING: Profile = Profile {
+    name: "deleting",
+    puts: 20,
+    deletes: 30,
+    tidies: 40,
+    loads: 30,
+    load_keys: 16,
+    load_deletes: 5,
+    load_tidies: 8,
+    ..STEADY
+};
 
 /// Makes a request for a key.
 type Maker = fn(&mut Source, u64) -> Vec<u8>;
@@ -130,7 +147,16 @@ impl Source {
         }
     }
 
-    /// Begins a load: its first put now, the rest in the requests that follow.
+    /// A put or, as often as the profile has it, a delete.
+    fn write(&mut self, key: u64) -> Vec<u8> {
+        let deletes = self.profile.load_deletes;
+        if deletes > 0 && self.random.below(8) < deletes {
+            return requests::delete(key);
+        }
+        self.put(key)
+    }
+
+    /// Begins a load: its first write now, the rest in the requests that follow.
     fn load(&mut self, key: u64) -> Vec<u8> {
         for _ in 0..self.random.below(self.profile.load_tidies + 1) {
             self.waiting.push(requests::tidy());
@@ -138,9 +164,9 @@ impl Source {
         self.waiting.push(requests::flush());
         for _ in 0..self.random.below(self.profile.load_keys) {
             let key = self.keys.draw(&mut self.random);
-            let put = self.put(key);
-            self.waiting.push(put);
+            let write = self.write(key);
+            self.waiting.push(write);
         }
-        self.put(key)
+        self.write(key)
     }
 }

@@ -2,7 +2,7 @@
 
 use super::broken::BREAKAGES;
 use super::keys::Keys;
-use super::profile::{Profile, Source, PROFILES};
+use super::profile::{Profile, Source, DELETING, PROFILES};
 use super::random::Random;
 use super::requests::{look_up, put, request};
 use crate::limits::LIST_BYTES;
@@ -26,6 +26,7 @@ const BUSY: Profile = Profile {
     refused: 12,
     loads: 30,
     load_keys: 12,
+    load_deletes: 0,
     load_tidies: 12,
 };
 
@@ -36,7 +37,7 @@ pub fn vectors(seed: u64) -> Vec<Vector> {
         Vector { name: "empty".into(), requests: Vec::new() },
     ];
     let key_sets = [Keys::Survey(300), Keys::Dense(40), Keys::Edges(80), Keys::Wide(350)];
-    for (number, profile) in PROFILES.iter().enumerate() {
+    for (number, profile) in PROFILES.iter().chain([&DELETING]).enumerate() {
         for (set, keys) in key_sets.iter().enumerate() {
             let seed = seed.wrapping_add((number * key_sets.len() + set) as u64);
             let requests = Source::new(*profile, *keys, seed).list(LIST_BYTES);

@@ -1,6 +1,7 @@
 //! The working's puts, deletes, flushes and tidies: what the rules link and merge.
 
 use super::due::Trigger;
+use super::marks::{Marks, Sifted};
 use super::working::{bytes_of, Rows, Slice, Working};
 use crate::limits::{capacity, TABLE_ENTRIES};
 use std::collections::{BTreeMap, BTreeSet};
@@ -26,10 +27,12 @@ pub enum Deed {
         /// None for a merge in place of a choice.
         due: Option<Trigger>,
         tables: usize,
+        marks: Marks,
     },
     MergeRefused {
         on: usize,
         due: Option<Trigger>,
+        marks: Marks,
     },
 }
 
@@ -120,11 +123,8 @@ impl Working {
     /// The tables of a level, in key order, each with the greatest of its own keys and range ends.
     fn span_ends(&self, level: usize) -> Vec<(usize, u64)> {
         let hanging = self.hanging();
-        let end = |place: &usize| {
-            let rows = self.rows(*place);
-            let ranges = hanging.get(place).into_iter().flatten().map(|slice| slice.high);
-            (*place, ranges.fold(rows[rows.len() - 1].0, u64::max))
-        };
+        let slices = |place: &usize| hanging.get(place).map_or(&[][..], |slices| slices);
+        let end = |place: &usize| (*place, self.hull(*place, slices(place)).1);
         self.levels[level].iter().map(end).collect()
     }
 
@@ -145,11 +145,16 @@ impl Working {
 
     /// Merges a table with its slices, or does nothing if the free places don't suffice.
     fn merge(&mut self, on: usize, place: usize, due: Option<Trigger>) -> Deed {
-        let results = self.results(on, place);
-        let tables = results.len();
-        if tables > self.free() {
-            return Deed::MergeRefused { on, due };
+        let mut rows = self.union(place);
+        let with_marks = rows.len().div_ceil(TABLE_ENTRIES);
+        let Sifted { dropped, kept, met } = self.sift(on, &mut rows);
+        let results: Vec<Rows> = rows.chunks(TABLE_ENTRIES).map(<[_]>::to_vec).collect();
+        let (tables, free) = (results.len(), self.free());
+        let marks = Marks { dropped, kept, made_room: tables <= free && free < with_marks };
+        if tables > free {
+            return Deed::MergeRefused { on, due, marks };
         }
+        self.met.extend(met);
         let settled: Vec<usize> = results.into_iter().map(|rows| self.settle(rows)).collect();
         let was_frozen: BTreeSet<usize> = self.slices.iter().map(|slice| slice.frozen).collect();
         self.slices.retain(|slice| slice.on != place);
@@ -167,11 +172,11 @@ impl Working {
                 self.levels[on].push(listed);
             }
         }
-        Deed::Merged { on, due, tables }
+        Deed::Merged { on, due, tables, marks }
     }
 
-    /// The contents of the tables that a merge writes.
-    fn results(&self, on: usize, place: usize) -> Vec<Rows> {
+    /// The rows of a table and of what hangs on it, the newest for each key; delete marks too.
+    fn union(&self, place: usize) -> Rows {
         let mut union: BTreeMap<u64, &Option<Vec<u8>>> = BTreeMap::new();
         // Newest first, so that what is there already stays.
         for slice in self.slices.iter().rev().filter(|slice| slice.on == place) {
@@ -182,9 +187,6 @@ impl Working {
         for (key, value) in self.rows(place) {
             union.entry(*key).or_insert(value);
         }
-        let stays = |(_, value): &(u64, &Option<Vec<u8>>)| on < 3 || value.is_some();
-        let rows: Rows =
-            union.into_iter().filter(stays).map(|(key, value)| (key, value.clone())).collect();
-        rows.chunks(TABLE_ENTRIES).map(<[_]>::to_vec).collect()
+        union.into_iter().map(|(key, value)| (key, value.clone())).collect()
     }
 }

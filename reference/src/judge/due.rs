@@ -1,6 +1,7 @@
 //! Which merges are due, worked from the slice list alone; and what tidies met on the way, for counting what a test run
 //! reached.
 
+use super::met;
 use super::working::{Row, Slice, Working};
 use std::collections::BTreeSet;
 
@@ -24,38 +25,6 @@ pub(super) struct Loaded {
     /// The sum of the links' numbers.
     weight: usize,
     pub due: Option<Trigger>,
-}
-
-/// Names for what a tidy met; each tells two readings of the triggers apart.
-pub mod met {
-    pub const ONE_BELOW: &str = "not due at a weight one below";
-    pub const JUST_DUE: &str = "due by weight alone, just the own entry count";
-    pub const FIRST_LINK: &str = "a table of one entry due at its first link";
-    pub const BY_MARKS: &str = "due by weight alone, with delete marks counted";
-    pub const BY_HIDDEN: &str = "due by weight alone, with hidden entries counted";
-    pub const WEIGHT_BY_KEY: &str = "due by weight before one by count, on one level";
-    pub const WEIGHT_BY_LEVEL: &str = "due by weight before one by count, on two levels";
-    pub const COUNT_BY_KEY: &str = "due by count before one by weight, on one level";
-    pub const COUNT_BY_LEVEL: &str = "due by count before one by weight, on two levels";
-    pub const MARK_COUNTED: &str = "a number that counts a delete mark";
-    pub const HIDDEN_COUNTED: &str = "a number that counts a hidden entry";
-
-    /// Met on planted stores alone: a tidy links to one level, and what is due there is merged before the next link.
-    pub const BEYOND_NEW: [&str; 2] = [WEIGHT_BY_LEVEL, COUNT_BY_LEVEL];
-
-    pub const ALL: [&str; 11] = [
-        ONE_BELOW,
-        JUST_DUE,
-        FIRST_LINK,
-        BY_MARKS,
-        BY_HIDDEN,
-        WEIGHT_BY_KEY,
-        WEIGHT_BY_LEVEL,
-        COUNT_BY_KEY,
-        COUNT_BY_LEVEL,
-        MARK_COUNTED,
-        HIDDEN_COUNTED,
-    ];
 }
 
 impl Working {

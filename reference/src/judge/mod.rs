@@ -6,11 +6,14 @@ mod compaction;
 mod due;
 mod image;
 mod latest;
+mod marks;
+pub mod met;
 mod working;
 
 pub use compaction::Deed;
-pub use due::{met, Trigger};
+pub use due::Trigger;
 pub use latest::LatestWrites;
+pub use marks::Marks;
 pub use working::{Slice, Working};
 
 use crate::implementation::Ran;

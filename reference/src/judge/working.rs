@@ -36,7 +36,7 @@ pub struct Working {
     pub(super) slices: Vec<Slice>,
     /// What each frozen place held when it was linked.
     pub(super) kept: BTreeMap<usize, Vec<u8>>,
-    /// What the latest request met, for counting; see `due`.
+    /// What the latest request met, for counting; see `met`.
     pub(super) met: Vec<&'static str>,
 }
 

@@ -1,12 +1,14 @@
 //! All tests of the second implementation and of the judge, as one program.
 
 mod build;
+mod cleared;
 mod common;
 mod damage;
 mod examples;
 mod formats;
 mod histories;
 mod letters;
+mod marks;
 mod mutants;
 mod plans;
 mod program;

@@ -6,8 +6,8 @@ use crate::common::{announce, on_two_threads};
 use reference::generate::keys::Keys;
 use reference::generate::opening::Opening;
 use reference::generate::plan::Plan;
-use reference::generate::planted::planted;
-use reference::generate::profile::{Source, PROFILES};
+use reference::generate::planted::{planted, planted_with_marks};
+use reference::generate::profile::{Source, DELETING, PROFILES};
 use reference::generate::random::Random;
 use reference::generate::requests::report;
 use reference::generate::saving::Saving;
@@ -95,8 +95,11 @@ fn history(subject: &Reference, eyes: Eyes, number: u64) -> (Trial<'_>, Source, 
         let profile = PROFILES[turn / 10 % PROFILES.len()];
         return (trial.expect("no slip is in make"), Source::new(profile, keys, number), 300);
     }
-    let lent = planted(&mut random, places, keys).encode();
-    let profile = PROFILES[[4, 4, 0, 1][turn % 4]];
+    let (store, profile) = match number % 10 {
+        7 => (planted_with_marks(&mut random, places, keys), DELETING),
+        _ => (planted(&mut random, places, keys), PROFILES[[4, 4, 0, 1][turn % 4]]),
+    };
+    let lent = store.encode();
     (Trial::of_sound_store(subject, eyes, lent), Source::new(profile, keys, number), 24)
 }
 

@@ -35,7 +35,8 @@ Prints the value under a key; `no value` and exit status 1 if there is none.
         "\
 del KEY
 
-Takes the value under a key away, if there is one.
+Takes the value under a key away, if there is one. A delete mark stays until a
+tidy merges it where nothing below can be under its key (`help tidy`).
 
   del 12 3.450
 ",
@@ -75,6 +76,8 @@ One step of compaction: a table moved down, linked down, or merged; the level
 is the one that it stood on. A merge comes first where one is due: of a table
 with as many links as the threshold says, or with links that weigh at least as
 many entries as it has itself. `tidy all` goes on until there is nothing to do.
+A merge drops a delete mark where no table on a lower level (of greater number)
+has a span that holds its key; `show` counts the marks that are left.
 Refused by 20 where a merge wants more places than are free.
 ",
     ),
@@ -113,8 +116,8 @@ show [--ascii] [--svg FILE]
 Draws the levels, the tables with their spans of keys, links and frozen places;
 with --svg as a picture into FILE (- is standard output). Bars go by the order
 of the keys that are there, each key as wide as the next. Numbers are entries;
-5/16 says that a table's links weigh 5 and that it has 16 itself. At the prompt
-and in scripts: `show` alone.
+5/16 says that a table's links weigh 5 and that it has 16 itself. Delete marks
+are counted, those in slices too. At the prompt and in scripts: `show` alone.
 
   surveyctl --store van.store show --svg van.svg
 ",

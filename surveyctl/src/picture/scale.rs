@@ -1,7 +1,7 @@
 //! Where keys stand in a picture: by their order among all keys that are there, each as wide as the next.
 
 use std::collections::BTreeSet;
-use zilgwern::{Entry, Key, Link, Table, View};
+use zilgwern::{Entry, Key, Table, View};
 
 /// All keys of a store, rising.
 pub struct Scale {
@@ -35,15 +35,6 @@ impl Scale {
 /// The least and the greatest key of entries, if there are any.
 pub fn extent(entries: &[Entry]) -> Option<(Key, Key)> {
     Some((entries.first()?.key, entries.last()?.key))
-}
-
-/// The entries of a frozen table that a link holds. Frozen tables stand by place, entries by key.
-pub fn held<'a>(view: &'a View, link: &Link) -> &'a [Entry] {
-    let found = view.frozen.binary_search_by_key(&link.place, |table| table.place);
-    let entries = found.map_or(&[][..], |at| &view.frozen[at].entries);
-    let from = entries.partition_point(|entry| entry.key < link.low);
-    let until = entries.partition_point(|entry| entry.key <= link.high);
-    &entries[from..until.max(from)]
 }
 
 /// A table's entries; where it has links, what they weigh against that. As much or more makes a merge due.
@@ -103,4 +94,17 @@ pub fn title(view: &View) -> String {
     let (free, frozen) = (view.free(), view.frozen.len());
     let places = format!("{} places: {free} free, {live} live, {frozen} frozen", view.places);
     format!("{places}; {}", counted(links, "link", "links"))
+}
+
+/// Where delete marks are, if there are any: in memory, and on each level, slices included.
+pub fn delete_marks(view: &View) -> Option<String> {
+    let memory = view.memory.iter().filter(|entry| entry.value.is_none()).count();
+    let levels =
+        (0..view.levels.len()).map(|level| (view.delete_marks(level), format!("on level {level}")));
+    let counts = std::iter::once((memory, "in memory".to_owned())).chain(levels);
+    let words: Vec<String> = counts
+        .filter(|(count, _)| *count > 0)
+        .map(|(count, place)| format!("{count} {place}"))
+        .collect();
+    (!words.is_empty()).then(|| format!("delete marks: {}", words.join(", ")))
 }

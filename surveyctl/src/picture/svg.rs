@@ -2,7 +2,7 @@
 //! and the tables below, and a map of all places.
 
 use super::paint::{Paint, FREE, FROZEN, LEFT, LEVELS, MEMORY, MERGED, RIGHT, WIDTH};
-use super::scale::{counted, extent, fill, frozen_on, held, states, title, weighed, Scale, State};
+use super::scale::{counted, extent, fill, frozen_on, states, title, weighed, Scale, State};
 use crate::words::{key_words, range_words};
 use zilgwern::{Entry, Key, Link, Table, View};
 
@@ -262,7 +262,7 @@ impl Drawing<'_> {
                 let Ok(from) = hung.binary_search_by_key(&link.place, |hung| hung.place) else {
                     continue;
                 };
-                let (x, width) = self.reach_of(held(self.view, link));
+                let (x, width) = self.reach_of(self.view.slice(link));
                 let y = tables - (age + 1) as f64 * SLICE;
                 self.paint.line(x + width / 2.0, hung[from].bottom, y, thin);
             }
@@ -276,7 +276,7 @@ impl Drawing<'_> {
         self.paint.ice(own, y, MERGED, &tip);
         let links = view.levels[level].iter().flat_map(|on| &on.links);
         for link in links.filter(|link| link.place == table.place) {
-            let entries = held(view, link);
+            let entries = view.slice(link);
             let tip = format!("{tip}; {} wait", counted(entries.len(), "entry", "entries"));
             self.paint.ice(self.reach_of(entries), y, FROZEN, &tip);
         }

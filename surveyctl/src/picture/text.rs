@@ -1,6 +1,8 @@
 //! The picture in a terminal of 80 columns: a line for each table and link, with a bar for its keys.
 
-use super::scale::{counted, extent, fill, frozen_on, held, states, title, weighed, Scale, State};
+use super::scale::{
+    counted, delete_marks, extent, fill, frozen_on, states, title, weighed, Scale, State,
+};
 use crate::words::{key_words, range_words};
 use zilgwern::{Key, Table, View};
 
@@ -53,7 +55,7 @@ pub fn draw(view: &View, whole: bool, signs: &Signs) -> String {
 }
 
 impl Drawing<'_> {
-    /// Threshold, cursor and marks.
+    /// Threshold, cursor and marks; and where delete marks are.
     fn book(&mut self) {
         let mut line = format!("threshold {}, cursor {}", self.view.threshold, self.view.cursor);
         for (at, mark) in self.view.marks.iter().enumerate() {
@@ -62,6 +64,7 @@ impl Drawing<'_> {
             }
         }
         self.lines.push(line);
+        self.lines.extend(delete_marks(self.view));
     }
 
     /// One line: a name, a count, a bar, and the range in words.
@@ -153,7 +156,7 @@ impl Drawing<'_> {
             }
             for link in view.levels[level].iter().flat_map(|on| &on.links) {
                 if let (true, Some((low, high))) =
-                    (link.place == table.place, extent(held(view, link)))
+                    (link.place == table.place, extent(view.slice(link)))
                 {
                     self.fill(&mut bar, low, high, self.signs.waits);
                 }

@@ -1,9 +1,10 @@
 -- Laws of the small functions on lists: tests of all, of any and of a run of numbers as facts about members and indices, how often a
 -- number occurs, and lists laid end to end. Each goes by induction on the list or on the number of parts.
 use Prim.Native.Nat.{ℕ, zero, suc, _+_, _*_, _≤_, _<_}
-use mathlib.Core.Path.{_≡_, refl, sym, ap}
-use mathlib.Core.Bool.{Bool, true, false, not, true≢false}
-use mathlib.Core.List.{List, [], _∷_, map, List·Memᴰ, List·Memᴰ·head, List·Memᴰ·tail}
+use mathlib.Core.Path.{_≡_, refl, sym, _∙_, ap}
+use mathlib.Core.Bool.{Bool, true, false, not, _||_, true≢false}
+use mathlib.Core.List.{List, [], _∷_, _++_, map, List·Memᴰ, List·Memᴰ·head, List·Memᴰ·tail, List·Memᴰ·append-cases}
+use mathlib.Core.Logic.{⊎-elim}
 use native.Mathlib.Omega.{arith}
 use native.Mathlib.Nat.{suc-mul, zero-mul, add-zero, zero-add}
 use borrow.Author.Tests.{eq-eqb, eqb-true, eqb-false}
@@ -11,6 +12,7 @@ use lib.Dec.{eqb}
 use lib.ListN.{drop-of-length-le, length, getD, take, drop, length-append, length-drop, take-append-drop}
 use lib.Seq.{drop-cons, take-at, drop-at, drop-drop, length-take-le}
 use Rattle.table.proofs.Tests.{and-parts, cases}
+use Rattle.ldc.proofs.Basics.Cases.{neither-left, neither-right}
 use Rattle.ldc.specs.Lists.{all, any, keep, first, howMany, flat, isEmpty, allFrom}
 
 -- ---- tests of all and of any
@@ -36,6 +38,26 @@ module _ {ℓ} {A : Type ℓ} where
       cases (test x)
       (λ q. (x, List·Memᴰ·head refl, q))
       (λ q. let r = any-at test xs (rw q at h) in (r .0, List·Memᴰ·tail (r .1), r .2))
+
+  -- Tests that agree on a list's members agree on any.
+  pub any-same : (t u : A → Bool) (xs : List A) → ((x : A) → List·Memᴰ x xs → t x ≡ u x) → any t xs ≡ any u xs
+  any-same t u [] h = refl
+  any-same t u (x ∷ xs) h = rw (h x (List·Memᴰ·head refl), any-same t u xs (λ y m. h y (List·Memᴰ·tail m)))
+
+  pub any-append : (t : A → Bool) (xs ys : List A) → any t (xs ++ ys) ≡ (any t xs || any t ys)
+  any-append t [] ys = refl
+  any-append t (x ∷ xs) ys = cases (t x) (λ q. rw q) (λ q. rw q (any-append t xs ys))
+
+  -- What none passes of several lists, none passes of one of them; and a member of all is one of one of them.
+  pub none-part : (t : A → Bool) (xss : List (List A)) (j : ℕ) → any t (flat xss) ≡ false → any t (getD xss j []) ≡ false
+  none-part t [] j h = refl
+  none-part t (xs ∷ xss) zero h = neither-left (any t xs) (any t (flat xss)) (sym (any-append t xs (flat xss)) ∙ h)
+  none-part t (xs ∷ xss) (suc j) h = none-part t xss j (neither-right (any t xs) (any t (flat xss)) (sym (any-append t xs (flat xss)) ∙ h))
+
+  pub part-of : (x : A) (xss : List (List A)) → List·Memᴰ x (flat xss) → (j : ℕ) × List·Memᴰ x (getD xss j [])
+  part-of x [] m = absurd (elim m [ ])
+  part-of x (xs ∷ xss) m =
+      ⊎-elim (λ h. (zero, h)) (λ h. let r = part-of x xss h in (suc (r .0), r .1)) (List·Memᴰ·append-cases xs m)
 
   -- Members and indices.
   pub mem-getD : (xs : List A) (i : ℕ) (d : A) → i < length xs → List·Memᴰ (getD xs i d) xs

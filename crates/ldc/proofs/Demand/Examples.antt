@@ -1,14 +1,14 @@
--- P1 to P10 and the example of note 2 hold, and so do the cases of the slips and the letters: each table is computed as a whole.
+-- P1 to P10 and the examples of notes 2 and 5 hold, and so do the cases of the slips and the letters: each table is computed as a whole.
 use mathlib.Core.Path.{_≡_, refl}
 use mathlib.Core.Bool.{true}
-use Rattle.ldc.specs.Store.{newStore, size, card, links, bytesAt, table, level, mark, within, slice, spanStart, spanEnd, sources}
+use Rattle.ldc.specs.Store.{newStore, size, card, links, bytesAt, table, level, mark, within, slice, spanStart, spanEnd, spanHolds, sources}
 use Rattle.ldc.specs.Rules.{named, thresholdGood, ruleA, timesListed, ruleB, ruleC, linkGood, hungOn, apart, ruleE, ruleF, ruleG}
 use Rattle.ldc.specs.Layout.{stateOf, linkCount, linkAt, cardOf, rowOf, markOf, markGood}
 use Rattle.ldc.specs.Request.{known, bodyGood, keyIn, valueIn, replyBytes}
 use Rattle.ldc.specs.Memtable.{servePut}
 use Rattle.ldc.specs.Place.{nextPlace, placeTaken, written, freePlaces, flushed, serveFlush}
 use Rattle.ldc.specs.Read.{readOrder, lookUp, serveLookUp}
-use Rattle.ldc.specs.Tidy.{dropsMark, mergedEntries, cut, mergedTables, mergeStep, due, dueWith, dueTable, capacity, fuller, overfull, round, slicesOf, downStep, tidyStep}
+use Rattle.ldc.specs.Tidy.{lowerTables, dropsMark, comesOut, mergedEntries, cut, mergedTables, mergeStep, due, dueWith, dueTable, capacity, fuller, overfull, round, slicesOf, downStep, tidyStep}
 use Rattle.ldc.specs.Steps.{leaves, doMove, doLink, doMerge, serveTidy}
 use Rattle.ldc.specs.Lent.{lentOf, placesIn, sizesGood, levelOf, storeOf, rowGood, numbersGood, countsGood, unusedZero, keptB, presupposed, keptE, keptF, keptG, broken, firstBroken}
 use Rattle.ldc.specs.Run.{check, letterOf}
@@ -21,11 +21,11 @@ use Rattle.coding.specs.Number.{numberAt, bytesOf}
 use Rattle.ldc.specs.Examples.{examples, slips, letters, agree}
 
 pub examples-agree : agree examples ≡ true
-unfolding agree examples newStore size card links bytesAt table level mark within slice spanStart spanEnd sources named known bodyGood keyIn valueIn servePut nextPlace placeTaken written freePlaces flushed serveFlush readOrder lookUp serveLookUp dropsMark mergedEntries cut mergedTables mergeStep due dueWith dueTable capacity fuller overfull round slicesOf downStep tidyStep leaves doMove doLink doMerge serveTidy serveKind serve entryLength entryBytes entryOf entryAt zeros entriesBytes tableLength tableBytes countOf entriesAt entries find leastKey greatestKey numberAt bytesOf
+unfolding agree examples newStore size card links bytesAt table level mark within slice spanStart spanEnd sources named known bodyGood keyIn valueIn servePut nextPlace placeTaken written freePlaces flushed serveFlush readOrder lookUp serveLookUp spanHolds lowerTables dropsMark comesOut mergedEntries cut mergedTables mergeStep due dueWith dueTable capacity fuller overfull round slicesOf downStep tidyStep leaves doMove doLink doMerge serveTidy serveKind serve entryLength entryBytes entryOf entryAt zeros entriesBytes tableLength tableBytes countOf entriesAt entries find leastKey greatestKey numberAt bytesOf
 examples-agree = refl
 
 pub slips-agree : agree slips ≡ true
-unfolding agree slips newStore size card links bytesAt table level mark within slice spanStart spanEnd sources named known bodyGood keyIn valueIn servePut nextPlace placeTaken written freePlaces flushed serveFlush readOrder lookUp serveLookUp dropsMark mergedEntries cut mergedTables mergeStep due dueWith dueTable capacity fuller overfull round slicesOf downStep tidyStep leaves doMove doLink doMerge serveTidy serveKind serve entryLength entryBytes entryOf entryAt zeros entriesBytes tableLength tableBytes countOf entriesAt entries find leastKey greatestKey numberAt bytesOf fed resultIn replyBytes
+unfolding agree slips newStore size card links bytesAt table level mark within slice spanStart spanEnd sources named known bodyGood keyIn valueIn servePut nextPlace placeTaken written freePlaces flushed serveFlush readOrder lookUp serveLookUp spanHolds lowerTables dropsMark comesOut mergedEntries cut mergedTables mergeStep due dueWith dueTable capacity fuller overfull round slicesOf downStep tidyStep leaves doMove doLink doMerge serveTidy serveKind serve entryLength entryBytes entryOf entryAt zeros entriesBytes tableLength tableBytes countOf entriesAt entries find leastKey greatestKey numberAt bytesOf fed resultIn replyBytes
 slips-agree = refl
 
 pub letters-agree : agree letters ≡ true

@@ -1,6 +1,6 @@
 -- What is read of a store does not depend on the bytes of its free places: live tables stand in lists and links name frozen ones, so that
 -- every table that is read is the same. Answers and the step that is due follow, by the cases of what each find gave.
-use Prim.Native.Nat.{ℕ, suc}
+use Prim.Native.Nat.{ℕ, suc, _+_}
 use mathlib.Core.Path.{_≡_, refl, _∙_, ap}
 use mathlib.Core.List.{List, [], _∷_, map, reverse, List·Memᴰ, List·Memᴰ·head, List·Memᴰ·tail}
 use mathlib.Core.Option.{Option, some, none}
@@ -9,7 +9,7 @@ use Rattle.ldc.specs.Lists.{first, isEmpty}
 use Rattle.ldc.specs.Store.{Link, Store, card, links, bytesAt, table, level, mark, slice, sources, spanEnd}
 use Rattle.ldc.specs.Request.{Request}
 use Rattle.ldc.specs.Read.{readOrder, lookUp, contents}
-use Rattle.ldc.specs.Tidy.{mergedEntries, mergedTables, mergeStep, due, dueTable, overfull, passed, round, responsible, holding, slicesOf, downStep, tidyStep}
+use Rattle.ldc.specs.Tidy.{lowerTables, comesOut, mergedEntries, mergedTables, mergeStep, due, dueTable, overfull, passed, round, responsible, holding, slicesOf, downStep, tidyStep}
 use Rattle.ldc.specs.History.{stepOf}
 use Rattle.ldc.proofs.Serving.Alike.{Alike, alike-is, links-alike, level-alike, mark-alike, freePlaces-alike}
 use Rattle.ldc.proofs.Basics.Cases.{maybe}
@@ -17,6 +17,7 @@ use Rattle.ldc.proofs.Stores.CardFacts.{live-not-free, frozen-not-free}
 use Rattle.ldc.proofs.Stores.Facts.{listed-live, link-frozen}
 use Rattle.ldc.proofs.Basics.ListLaws.{mem-getD, first-same}
 use Rattle.ldc.proofs.Stores.Frame.{map-cong, table-same, slice-same, spanEnd-same, sources-same}
+use Rattle.ldc.proofs.Stores.Lower.{lower-listed, comes-same}
 use Rattle.ldc.proofs.Steps.Ranges.{reaches}
 use Rattle.ldc.proofs.Basics.Replaced.{member-reverse}
 use Rattle.ldc.proofs.Stores.Sound.{Sound}
@@ -101,10 +102,20 @@ module _ (s s′ : Store) (S : Sound s) (a : Alike s s′) where
   unfolding links card
   bare-alike n = ap (λ x. first (λ p. isEmpty (links x p)) (round s′ n)) (alike-is s s′ a) ∙ ap (first (λ p. isEmpty (links s p))) (round-alike n)
 
+  lower-alike : (n : ℕ) → lowerTables s′ n ≡ lowerTables s n
+  unfolding lowerTables
+  lower-alike n = ap (λ x. lowerTables x n) (alike-is s s′ a)
+
   module _ (n p : ℕ) (m : List·Memᴰ p (level s n)) where
+    -- the tables of lower-lying levels are listed, so their spans are the same
+    comes-alike : comesOut s′ n ≡ comesOut s n
+    comes-alike =
+        comes-same s s′ n (lower-alike n)
+        (λ q h. let t = lower-listed s n q h in (links-alike s s′ a q, listed-bytes (suc n + t .0) q (t .1)))
+
     pub merged-alike : mergedTables s′ n p ≡ mergedTables s n p
     unfolding mergedTables mergedEntries
-    merged-alike = rw (sources-alike n p m)
+    merged-alike = rw (sources-alike n p m, comes-alike)
 
     mergeStep-alike : mergeStep s′ n p ≡ mergeStep s n p
     unfolding mergeStep

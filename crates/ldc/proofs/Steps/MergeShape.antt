@@ -17,8 +17,8 @@ use Rattle.ldc.specs.Lists.{any}
 use Rattle.ldc.specs.Store.{Link, free, Store, size, card, links, isFree, isLive, isFrozen, bytesAt, table, level, slice, sources, within, spanStart, spanEnd, withCard, withLevel}
 use Rattle.ldc.specs.Rules.{named}
 use Rattle.ldc.specs.Place.{writtenAll, placesTaken, freePlaces}
-use Rattle.ldc.specs.Read.{gather, holdsValue}
-use Rattle.ldc.specs.Tidy.{dropsMark, mergedEntries, mergedTables}
+use Rattle.ldc.specs.Read.{gather}
+use Rattle.ldc.specs.Tidy.{comesOut, mergedEntries, mergedTables}
 use Rattle.ldc.specs.Steps.{replaced, doMerge}
 use Rattle.ldc.proofs.Basics.Cases.{cases, clash, both-left}
 use Rattle.ldc.proofs.Stores.CardFacts.{live-not-free, live-not-frozen, frozen-not-free, frozen-not-live, no-links}
@@ -94,14 +94,14 @@ module _ (s : Store) (S : Sound s) (p : ℕ) (o : isFree (card s p) ≡ false) w
   module _ (n : ℕ) where
     pub merged-keys : Keys (spanStart s p) (suc (spanEnd s p)) (mergedEntries s n p)
     unfolding mergedEntries
-    merged-keys = keys-keep (spanStart s p) (suc (spanEnd s p)) (λ e. cond (holdsValue e) true (not (dropsMark n e))) (gather (sources s p)) (keys-gather (spanStart s p) (suc (spanEnd s p)) (sources s p) sources-keys)
+    merged-keys = keys-keep (spanStart s p) (suc (spanEnd s p)) (comesOut s n) (gather (sources s p)) (keys-gather (spanStart s p) (suc (spanEnd s p)) (sources s p) sources-keys)
 
     pub merged-pieces : (t : List Entry) → List·Memᴰ t (mergedTables s n p) → Piece t
     unfolding mergedTables mergedEntries
     merged-pieces =
         cut-pieces (mergedEntries s n p)
-        (keys-keep 0 (2 ^ 64) (λ e. cond (holdsValue e) true (not (dropsMark n e))) (gather (sources s p)) (keys-gather 0 (2 ^ 64) (sources s p) sources-all))
-        (values-keep (λ e. cond (holdsValue e) true (not (dropsMark n e))) (gather (sources s p)) (values-gather (sources s p) sources-values))
+        (keys-keep 0 (2 ^ 64) (comesOut s n) (gather (sources s p)) (keys-gather 0 (2 ^ 64) (sources s p) sources-all))
+        (values-keep (comesOut s n) (gather (sources s p)) (values-gather (sources s p) sources-values))
 
 module _ {A B C : Type 0} (f : B → C) (g : A → B) where
   map-map : (xs : List A) → map f (map g xs) ≡ map (λ x. f (g x)) xs

@@ -2,7 +2,7 @@
 -- A place written is one place changed at most; a merge has at most nine sources of sixteen entries, so that nine tables come out.
 use Prim.Native.Nat.{ℕ, zero, suc, _+_, _≤_}
 use mathlib.Core.Path.{_≡_, refl}
-use mathlib.Core.Bool.{Bool, true, cond, not}
+use mathlib.Core.Bool.{true}
 use mathlib.Core.List.{List, [], _∷_, map, reverse, List·Memᴰ, List·Memᴰ·head, List·Memᴰ·tail}
 use native.Mathlib.Omega.{arith}
 use borrow.Author.Tests.{eq-eqb}
@@ -13,8 +13,8 @@ use Rattle.table.specs.Table.{tableBytes}
 use Rattle.ldc.specs.Lists.{isEmpty}
 use Rattle.ldc.specs.Store.{Link, Store, card, links, level, table, slice, sources}
 use Rattle.ldc.specs.Place.{placeTaken, written, writtenAll, freePlaces, flushed, serveFlush}
-use Rattle.ldc.specs.Read.{gather, holdsValue}
-use Rattle.ldc.specs.Tidy.{Slice, dropsMark, mergedEntries, mergedTables, slicesOf}
+use Rattle.ldc.specs.Read.{gather}
+use Rattle.ldc.specs.Tidy.{Slice, comesOut, mergedEntries, mergedTables, slicesOf}
 use Rattle.ldc.specs.Steps.{leaves, doMove, doLink, doMerge, serveTidy, sameBytes, placesChanged}
 use Rattle.ldc.proofs.Basics.Cases.{cases}
 use Rattle.ldc.proofs.Basics.Replaced.{member-reverse}
@@ -92,11 +92,10 @@ module _ (s : Store) (S : Sound s) (n p : ℕ) (m : List·Memᴰ p (level s n)) 
   pub merged-few : length (mergedTables s n p) ≤ 9
   unfolding mergedTables mergedEntries
   merged-few =
-      let test : Entry → Bool = λ e. cond (holdsValue e) true (not (dropsMark n e)) in
       omega (
         arith,
         cut-few (mergedEntries s n p),
-        keep-few test (gather (sources s p)),
+        keep-few (comesOut s n) (gather (sources s p)),
         gather-few (sources s p) sources-valid,
         sources-few,
       )

@@ -130,16 +130,49 @@ pub value-orElse : (a x y : Option Entry) → valueOf x ≡ valueOf y → valueO
 value-orElse (some e) x y h = refl
 value-orElse none x y h = h
 
--- A change that leaves what levels 0 to 2 give, and the value that level 3 gives, changes no value.
-pub view-values : (s s′ : Store) (k : ℕ) → s′ .memory ≡ s .memory → given s′ 0 k ≡ given s 0 k → given s′ 1 k ≡ given s 1 k → given s′ 2 k ≡ given s 2 k
-    → valueOf (given s′ 3 k) ≡ valueOf (given s 3 k) → valueOf (view s′ k) ≡ valueOf (view s k)
-view-values s s′ k m a b c d =
-    ap valueOf (view-given s′ k ∙ ap₅ (ap (find k) m) a b c)
-    ∙ value-orElse (find k (s .memory)) (orElse (given s 0 k) (orElse (given s 1 k) (orElse (given s 2 k) (given s′ 3 k)))) (orElse (given s 0 k) (orElse (given s 1 k) (orElse (given s 2 k) (given s 3 k))))
-    (value-orElse (given s 0 k) (orElse (given s 1 k) (orElse (given s 2 k) (given s′ 3 k))) (orElse (given s 1 k) (orElse (given s 2 k) (given s 3 k)))
-    (value-orElse (given s 1 k) (orElse (given s 2 k) (given s′ 3 k)) (orElse (given s 2 k) (given s 3 k))
-    (value-orElse (given s 2 k) (given s′ 3 k) (given s 3 k) d)))
+-- Below memory and levels 0 and 1.
+value-upper : (s : Store) (k : ℕ) (x y : Option Entry) → valueOf x ≡ valueOf y
+    → valueOf (orElse (find k (s .memory)) (orElse (given s 0 k) (orElse (given s 1 k) x)))
+    ≡ valueOf (orElse (find k (s .memory)) (orElse (given s 0 k) (orElse (given s 1 k) y)))
+value-upper s k x y h =
+    value-orElse (find k (s .memory)) (orElse (given s 0 k) (orElse (given s 1 k) x)) (orElse (given s 0 k) (orElse (given s 1 k) y))
+    (value-orElse (given s 0 k) (orElse (given s 1 k) x) (orElse (given s 1 k) y) (value-orElse (given s 1 k) x y h))
+
+parts-same : {m m′ a a′ b b′ c c′ d d′ : Option Entry} → m′ ≡ m → a′ ≡ a → b′ ≡ b → c′ ≡ c → d′ ≡ d → viewParts m′ a′ b′ c′ d′ ≡ viewParts m a b c d
+parts-same em ea eb ec ed = rw (em, ea, eb, ec, ed)
+
+-- What the levels below one of levels 1 to 3 give.
+abbrev pub beneath : Store → (level key : ℕ) → Option Entry
+beneath s zero k = none
+beneath s (suc zero) k = orElse (given s 2 k) (given s 3 k)
+beneath s (suc (suc zero)) k = given s 3 k
+beneath s (suc (suc (suc n))) k = none
+
+-- A change of one of levels 1 to 3 that leaves the value given by it and those below changes no value.
+pub view-one : (s s′ : Store) (k n : ℕ) → 1 ≤ n → n ≤ 3 → s′ .memory ≡ s .memory → ((i : ℕ) → (i ≡ n → ⊥) → given s′ i k ≡ given s i k)
+    → valueOf (orElse (given s′ n k) (beneath s n k)) ≡ valueOf (orElse (given s n k) (beneath s n k)) → valueOf (view s′ k) ≡ valueOf (view s k)
+view-one s s′ k zero l h m same one = absurd (omega arith)
+view-one s s′ k (suc zero) l h m same one =
+    let rest = orElse (given s 2 k) (given s 3 k) in
+    let parts : view s′ k ≡ viewParts (find k (s .memory)) (given s 0 k) (given s′ 1 k) (given s 2 k) (given s 3 k) =
+    view-given s′ k ∙ parts-same (ap (find k) m) (same 0 (λ e. omega arith)) (refl {a = given s′ 1 k}) (same 2 (λ e. omega arith)) (same 3 (λ e. omega arith)) in
+    ap valueOf parts
+    ∙ value-orElse (find k (s .memory)) (orElse (given s 0 k) (orElse (given s′ 1 k) rest)) (orElse (given s 0 k) (orElse (given s 1 k) rest))
+    (value-orElse (given s 0 k) (orElse (given s′ 1 k) rest) (orElse (given s 1 k) rest) one)
     ∙ sym (ap valueOf (view-given s k))
-  where
-    ap₅ : {m m′ a a′ b b′ c c′ : Option Entry} → m′ ≡ m → a′ ≡ a → b′ ≡ b → c′ ≡ c → viewParts m′ a′ b′ c′ (given s′ 3 k) ≡ viewParts m a b c (given s′ 3 k)
-    ap₅ p q r t = rw (p, q, r, t)
+view-one s s′ k (suc (suc zero)) l h m same one =
+    let rest : Option Entry → Option Entry = λ o. orElse o (given s 3 k) in
+    let parts : view s′ k ≡ viewParts (find k (s .memory)) (given s 0 k) (given s 1 k) (given s′ 2 k) (given s 3 k) =
+    view-given s′ k ∙ parts-same (ap (find k) m) (same 0 (λ e. omega arith)) (same 1 (λ e. omega arith)) (refl {a = given s′ 2 k}) (same 3 (λ e. omega arith)) in
+    ap valueOf parts
+    ∙ value-upper s k (rest (given s′ 2 k)) (rest (given s 2 k)) one
+    ∙ sym (ap valueOf (view-given s k))
+view-one s s′ k (suc (suc (suc zero))) l h m same one =
+    let parts : view s′ k ≡ viewParts (find k (s .memory)) (given s 0 k) (given s 1 k) (given s 2 k) (given s′ 3 k) =
+    view-given s′ k ∙ parts-same (ap (find k) m) (same 0 (λ e. omega arith)) (same 1 (λ e. omega arith)) (same 2 (λ e. omega arith)) (refl {a = given s′ 3 k}) in
+    ap valueOf parts
+    ∙ value-upper s k (orElse (given s 2 k) (given s′ 3 k)) (orElse (given s 2 k) (given s 3 k))
+    (value-orElse (given s 2 k) (given s′ 3 k) (given s 3 k)
+    (ap valueOf (sym (orElse-none (given s′ 3 k))) ∙ one ∙ ap valueOf (orElse-none (given s 3 k))))
+    ∙ sym (ap valueOf (view-given s k))
+view-one s s′ k (suc (suc (suc (suc n)))) l h m same one = absurd (omega arith)
