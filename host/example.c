@@ -1,8 +1,8 @@
 /*
  * Document 01's example in C: makes a store of 32 places with threshold 4, puts "A" under key 5, looks it up, and prints the
  * answer bytes in hexadecimal. Breaks two rules of a sound store, and prints number and letter of a check before each is mended
- * and at the end. Then saves the store, opens it over an area of twice the places, and looks the key up there. Last, a value is
- * deleted, and tidied away with its delete mark.
+ * and at the end. Then saves the store, opens it over an area of twice the places, and looks the key up there. A value is deleted,
+ * and tidied away with its delete mark. Last, probes say which tables a look-up opens, and wrong summary bits are refused.
  */
 #include "zilgwern.h"
 
@@ -39,6 +39,17 @@ static const uint8_t deletes[] = {
     4, 0, ZILGWERN_REPORT, 0,
     4, 0, ZILGWERN_TIDY, 0, 4, 0, ZILGWERN_TIDY, 0, 4, 0, ZILGWERN_TIDY, 0,
     4, 0, ZILGWERN_REPORT, 0,
+};
+
+/* Keys 5 and 260 in tables of their own, the newer in place 1; then probes of 5, 260, 6 and 7. The bits of key 5 are all bit 5, those
+ * of 260 (bytes 4 and 1) are 5, 5 and 6, those of 6 and 7 bit 6 and bit 7. */
+static const uint8_t probes[] = {
+    13, 0, ZILGWERN_PUT, 0, 5, 0, 0, 0, 0, 0, 0, 0, 'A', 4, 0, ZILGWERN_FLUSH, 0,
+    13, 0, ZILGWERN_PUT, 0, 4, 1, 0, 0, 0, 0, 0, 0, 'B', 4, 0, ZILGWERN_FLUSH, 0,
+    12, 0, ZILGWERN_PROBE, 0, 5, 0, 0, 0, 0, 0, 0, 0,
+    12, 0, ZILGWERN_PROBE, 0, 4, 1, 0, 0, 0, 0, 0, 0,
+    12, 0, ZILGWERN_PROBE, 0, 6, 0, 0, 0, 0, 0, 0, 0,
+    12, 0, ZILGWERN_PROBE, 0, 7, 0, 0, 0, 0, 0, 0, 0,
 };
 
 /* Prints the number that a check gives, and with 5 the letter. */
@@ -114,6 +125,54 @@ static void delete_for_good(void)
     printf("free: %u, then %u\n", (unsigned)answer[REPORT + FREE], (unsigned)answer[after + FREE]);
 }
 
+/* The bits set in the summary of a place's card. */
+static unsigned bits_set(size_t place)
+{
+    unsigned count = 0;
+
+    for (size_t bit = 0; bit < 8 * ZILGWERN_SUMMARY_BYTES; bit++) {
+        count += cards[place].summary[bit / 8] >> (bit % 8) & 1u;
+    }
+    return count;
+}
+
+/* Prints for each probe what was found, the tables opened and their bits; 0 if these are those of the places that are opened: for key
+ * 5 both, the newer in vain, for 260 the newer, for 6 the newer in vain, for 7 none. */
+static int probe_keys(void)
+{
+    static const struct { unsigned found, newer, older; } expected[4] = {{1, 1, 1}, {1, 1, 0}, {0, 1, 0}, {0, 0, 0}};
+    uint8_t answer[2 * ZILGWERN_ANSWER_ROOM];
+    zilgwern_outcome outcome;
+    const uint8_t *reply = answer + 4 * 6; /* behind those of the puts and flushes */
+
+    zilgwern_make(area, sizeof area, cards, PLACES, lists, ZILGWERN_LIST_ITEMS(PLACES), &head, memory, THRESHOLD);
+    zilgwern_run(area, sizeof area, cards, PLACES, lists, ZILGWERN_LIST_ITEMS(PLACES), &head, memory, probes, sizeof probes,
+                 answer, sizeof answer, &outcome);
+    for (size_t at = 0; at < 4; at++) {
+        const unsigned found = reply[6], tables = reply[8], bits = reply[10];
+        const unsigned newer = expected[at].newer, older = expected[at].older;
+
+        printf("found %u, tables opened %u, bits %u\n", found, tables, bits);
+        if (found != expected[at].found || tables != newer + older || bits != newer * bits_set(1) + older * bits_set(0)) {
+            return 1;
+        }
+        reply += reply[0];
+    }
+    return 0;
+}
+
+/* A bit that no key of the table sets, and one of a free card. */
+static void break_bits(void)
+{
+    cards[0].summary[31] = 0x80; /* rule C */
+    print_check();
+    cards[0].summary[31] = 0;
+    cards[9].summary[0] = 1; /* rule G: place 9 is free */
+    print_check();
+    cards[9].summary[0] = 0;
+    print_check();
+}
+
 int main(void)
 {
     uint8_t answer[2 * ZILGWERN_ANSWER_ROOM];
@@ -135,5 +194,10 @@ int main(void)
     break_and_mend();
     save_and_open();
     delete_for_good();
+    if (probe_keys() != 0) {
+        fprintf(stderr, "a probe says other tables or bits than the cards have\n");
+        return 1;
+    }
+    break_bits();
     return 0;
 }

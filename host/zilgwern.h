@@ -38,6 +38,7 @@ extern "C" {
 #define ZILGWERN_MOST_PLACES 4096  /* to 4,096 */
 #define ZILGWERN_LEVELS 4          /* levels 0 to 3 */
 #define ZILGWERN_CARD_LINKS 8      /* links that a card has room for; the threshold is at most this */
+#define ZILGWERN_SUMMARY_BYTES 32  /* bytes of a card's summary, 256 bits */
 #define ZILGWERN_MEMORY_BYTES 1024 /* bytes of the memory table */
 #define ZILGWERN_VALUE_BYTES 51    /* the longest value */
 #define ZILGWERN_ENTRY_BYTES (12 + ZILGWERN_VALUE_BYTES) /* the longest entry: length (2), kind (2), key (8), value */
@@ -82,14 +83,24 @@ typedef struct zilgwern_link {
 /* What a card says of its place. */
 enum { ZILGWERN_FREE = 0, ZILGWERN_LIVE = 1, ZILGWERN_FROZEN = 2 };
 
-/* The card of a place. Links stand oldest first; words beyond link_count links are zero. */
+/*
+ * The card of a place. Links stand oldest first; words beyond link_count links are zero.
+ *
+ * The summary of a live or frozen card has three bits set for each key of the place's table, those of delete marks too: with the
+ * key's bytes b0 to b7, lowest first, bit b0 xor b1 xor .. xor b7, bit b0 + b1 + .. + b7 and bit 1 b0 + 2 b1 + .. + 8 b7, the sums
+ * modulo 256. They may coincide. Bit n is bit n % 8 of byte n / 8. All other bits are 0, and all of a free card. A look-up opens no
+ * table that lacks one of the three bits of its key. The library keeps the bits; a wrong one is refused by 5, with C on a live or
+ * frozen card and with G on a free one.
+ */
 typedef struct zilgwern_card {
     uint64_t state;
     uint64_t link_count;
     zilgwern_link links[ZILGWERN_CARD_LINKS];
+    uint8_t summary[ZILGWERN_SUMMARY_BYTES];
 } zilgwern_card;
 
-ZILGWERN_STATIC_ASSERT(sizeof(zilgwern_card) == 272, "a card is 34 words of 64 bits");
+ZILGWERN_STATIC_ASSERT(sizeof(zilgwern_card) == 304, "a card is 38 words of 64 bits");
+ZILGWERN_STATIC_ASSERT(offsetof(zilgwern_card, summary) == 272, "the summary is the last four words of a card");
 
 /* A mark: the key after which tidy goes on choosing in a level. flag is 1 if there is a key; else both are 0. */
 typedef struct zilgwern_mark {
@@ -142,12 +153,13 @@ enum {
 enum {
     ZILGWERN_RULE_A = 'A', /* threshold 1 to 8, cursor below P */
     ZILGWERN_RULE_B = 'B', /* each place is free or frozen and in no list, or live and in one list once; only live cards link */
-    ZILGWERN_RULE_C = 'C', /* live and frozen places hold tables */
+    ZILGWERN_RULE_C = 'C', /* live and frozen places hold tables, and their cards' summaries are those of the tables' keys */
     ZILGWERN_RULE_D = 'D', /* the memory table is one, with 0 to 16 entries */
     ZILGWERN_RULE_E = 'E', /* links: on levels 1 to 3, at most the threshold, ranges and numbers good, on frozen places, sharing
                               no key */
     ZILGWERN_RULE_F = 'F', /* a place is frozen exactly if a link names it */
-    ZILGWERN_RULE_G = 'G'  /* tables of levels 1 to 3 lie apart and rise; parts of the book not in use are zero */
+    ZILGWERN_RULE_G = 'G'  /* tables of levels 1 to 3 lie apart and rise; parts of the book not in use are zero, free cards'
+                              summaries too */
 };
 
 /* Kinds of requests. */
@@ -158,18 +170,20 @@ enum {
     ZILGWERN_SCAN = 4,    /* low key (8), high key (8), both included; count (2), more (2), then so many entries */
     ZILGWERN_FLUSH = 5,   /* none: writes the memory table to a place and empties it */
     ZILGWERN_TIDY = 6,    /* none: does one step of compaction; step (2), level (2) */
-    ZILGWERN_REPORT = 7   /* none; eight counts (2 each): free, live on levels 0 to 3, frozen, links, memory entries */
+    ZILGWERN_REPORT = 7,  /* none; eight counts (2 each): free, live on levels 0 to 3, frozen, links, memory entries */
+    ZILGWERN_PROBE = 8    /* key (8); found (2: 1 exactly if a look-up gives a value, else 0), tables that a look-up opens (2), bits
+                             set in their summaries, added up (4), then the value if found */
 };
 
 /* Results in replies. All but 0 come without a body; 16 to 20 leave the store as it was, and the run goes on. */
 enum {
     ZILGWERN_DONE = 0,
-    ZILGWERN_UNKNOWN_KIND = 16,
+    ZILGWERN_UNKNOWN_KIND = 16,  /* a kind outside 1 to 8 */
     ZILGWERN_WRONG_BODY = 17,    /* body length wrong for the kind */
     ZILGWERN_MEMORY_FULL = 18,   /* put or delete of a key that the memory table lacks, and it holds 16: flush first */
     ZILGWERN_WRONG_RANGE = 19,   /* scan with low above high */
     ZILGWERN_NO_PLACE = 20,      /* fewer free places than the flush or the due merge writes */
-    ZILGWERN_NO_VALUE = 64,      /* look up: no value under this key */
+    ZILGWERN_NO_VALUE = 64,      /* look up: no value under this key; a probe says so by found */
     ZILGWERN_NOTHING_TO_DO = 65  /* flush of an empty memory table; tidy with no merge due and no level above its capacity */
 };
 
@@ -179,6 +193,14 @@ enum {
  * greatest of a table's own keys and its links' range ends. What is left may be nothing: then no table takes the old one's place.
  */
 enum { ZILGWERN_MOVED = 1, ZILGWERN_LINKED = 2, ZILGWERN_MERGED = 3 };
+
+/*
+ * The tables that a look-up opens, as a probe counts them. After memory, which is not counted, it asks the tables of level 0, newest
+ * first; then on each of levels 1 to 3 the one whose span holds the key, if there is one: the frozen tables of those of its links
+ * whose range holds the key, newest first, then the table itself. It opens those whose summary has the three bits of the key, up to
+ * the one with an entry under it, a value or a delete mark, which decides; that one counts, too. They are at most as many as level 0
+ * has tables and 3 (T + 1), T the threshold. A probe changes nothing.
+ */
 
 /*
  * Request: length of the whole (2), kind (2), body. A list is requests one behind the other.
@@ -199,7 +221,7 @@ ZILGWERN_STATIC_ASSERT(sizeof(zilgwern_outcome) == 24, "the outcome is 3 words o
  * A saved book: length of the whole (4), kind 48 (2), P, threshold, cursor (2 each); of levels 1 and 2 the mark's flag (2: 0 or
  * 1) and key (8: 0 if none); of each card the state (2), the link count (2), and of each link place (2), low (8), high (8),
  * number (2); the four lists and the memory entries, each after its count (2). Items have 2 bytes, entries the form above, with
- * 1 or 2 (a delete mark). docs/FORMATS.md has an example. The area's bytes are not in it.
+ * 1 or 2 (a delete mark). docs/FORMATS.md has an example. The area's bytes are not in it, and the summaries are not either.
  */
 
 /* What saving gives back beside its number. */
@@ -243,6 +265,7 @@ uint64_t zilgwern_save(const uint8_t *area, size_t area_bytes, const zilgwern_ca
  * Opens a saved book over an area, which is only read: cards, lists, head and memory become the store's, whatever they held.
  * The area has as many places as the book names, or more: the added ones are free, so a store that ran short of places goes on.
  * Its other places must hold the bytes of the moment of saving: an area of another moment is refused only where it breaks a rule.
+ * The summaries are worked out from the area: that of a live or frozen card from the table in its place, zero if there is none.
  * As many working cards as cards are wanted; with 0 and 5 they hold the cards of the store as opened, else they stay. *letter
  * is that of the first broken rule of the store as opened with 5, else 0. Gives 0, 1, 21, 22 or 5.
  */

@@ -1,7 +1,7 @@
 //! What a check costs at several sizes, on stores that are full of tables and links: the fixed cost of every run.
 
 use crate::clock::timed;
-use crate::engines::Versions;
+use crate::engines::{Opened, Versions};
 use crate::rounds::median;
 use differential::check_in_place;
 use reference::generate::full::full;
@@ -26,26 +26,32 @@ pub struct CheckTimes {
     pub second: Option<f64>,
 }
 
-/// A check; whether the store is sound.
-type Check = Box<dyn Fn(&mut Lent) -> bool>;
+/// A check on a store of its own; whether that is sound.
+struct Check {
+    lent: Lent,
+    check: Box<dyn Fn(&mut Lent) -> bool>,
+}
 
 /// Those of the two opened stores where there are some, else that of the linked one; then the second implementation's if it is wanted.
-fn checks(versions: Option<Versions>, with_second: bool) -> Vec<Check> {
-    let mut checks: Vec<Check> = match versions {
-        Some(Versions { now, before }) => vec![
-            Box::new(move |lent| now.check(lent) == (0, 0)),
-            Box::new(move |lent| before.check(lent) == (0, 0)),
-        ],
-        None => vec![Box::new(|lent| check_in_place(lent) == (0, 0))],
+/// All are of the same store, with the cards as each has them.
+fn checks(lent: &Lent, versions: Option<Versions>, with_second: bool) -> Vec<Check> {
+    let opened = |store: Opened| Check {
+        lent: store.laid_out(lent),
+        check: Box::new(move |lent| store.check(lent) == (0, 0)),
+    };
+    let alike = |check: fn(&mut Lent) -> bool| Check { lent: lent.clone(), check: Box::new(check) };
+    let mut checks = match versions {
+        Some(Versions { now, before }) => vec![opened(now), opened(before)],
+        None => vec![alike(|lent| check_in_place(lent) == (0, 0))],
     };
     if with_second {
-        checks.push(Box::new(|lent| rules::check(lent).number == 0));
+        checks.push(alike(|lent| rules::check(lent).number == 0));
     }
     checks
 }
 
 /// What one check takes. It is done once before the clock runs, so that each finds the store in the caches as it leaves it itself.
-fn time_of(check: &Check, lent: &mut Lent) -> f64 {
+fn time_of(Check { lent, check }: &mut Check) -> f64 {
     let together = (TOGETHER / lent.cards.len()).max(1);
     assert!(check(lent), "a sound store");
     timed(|| (0..together).for_each(|_| assert!(check(lent), "a sound store"))) / together as f64
@@ -60,13 +66,13 @@ pub fn check_times(
     versions: Option<Versions>,
     with_second: bool,
 ) -> CheckTimes {
-    let mut lent: Lent = full(&mut Random::new(seed), places).encode();
-    let checks = checks(versions, with_second);
+    let lent: Lent = full(&mut Random::new(seed), places).encode();
+    let mut checks = checks(&lent, versions, with_second);
     let mut times = vec![Vec::new(); checks.len()];
     let mut order: Vec<usize> = (0..checks.len()).collect();
     for _ in 0..rounds {
         for which in &order {
-            times[*which].push(time_of(&checks[*which], &mut lent));
+            times[*which].push(time_of(&mut checks[*which]));
         }
         if versions.is_some() {
             order.swap(0, 1);

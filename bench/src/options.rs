@@ -13,7 +13,8 @@ usage: bench/run [OPTIONS]
   --rounds N        rounds of each measure, medians are told (7)
   --places P        one size of store alone: 4096 or 256
   --only STORES     of zilgwern, second, btreemap, lmdb, leveldb, sqlite; with commas between
-  --before FILE.a   of bench/run: an earlier static library takes part in the same rounds, with a table of the aims against it
+  --before FILE.a   of bench/run: an earlier static library takes part in the same rounds, with a table of the aims against it;
+                    it may be from before cards had summaries, but not from before links had numbers
   --measure NAMES   of put, hit, miss, scan, mixed, check, cases, kept, written, threshold; with commas between
   --thresholds LIST of the table 'threshold': numbers from 1 to 8, with commas between (1,4,8)
   --repeat N        look-ups and scans of a round so many times (1)

@@ -1,5 +1,5 @@
 //! Two libraries in the same rounds, here one file twice: both give the right answers and leave the same bytes, and each has its place
-//! in the tables. A file that is not there or is no store is refused.
+//! in the tables. An earlier library may have shorter rows. A file that is not there or is no store is refused.
 
 use bench::cases::{Case, CaseTimes, CASES, LEFT};
 use bench::checks::check_times;
@@ -9,6 +9,8 @@ use bench::lists::Listed;
 use bench::proved::Proved;
 use bench::report;
 use bench::rounds::{Measure, Plan};
+use reference::generate::full::full;
+use reference::generate::random::Random;
 use std::path::{Path, PathBuf};
 use std::process::{Command, Output};
 
@@ -102,6 +104,39 @@ fn both_are_checked() {
     let alone = check_times(1, 32, 2, None, false);
     assert_eq!((alone.before, alone.second), (None, None));
     assert_eq!((alone.tables, alone.links), (both.tables, both.links));
+}
+
+/// A library whose cards have so many words, by a C compiler.
+fn of_row_words(words: usize) -> String {
+    let source = Path::new(env!("CARGO_MANIFEST_DIR")).join("tests/rows.c");
+    let object = scratch(&format!("rows-{words}.so"));
+    let mut compiler = Command::new("cc");
+    compiler.args(["-shared", "-fPIC", "-O1", &format!("-DROW_WORDS={words}"), "-o"]);
+    assert!(compiler.arg(&object).arg(source).status().expect("cc").success());
+    object.to_str().expect("a path in words").to_string()
+}
+
+/// Before cards had summaries they had 34 words. Such a library finds them where it looks for them, and one of 26 words, from before
+/// links had numbers, is refused.
+#[test]
+fn an_earlier_library_gets_its_own_rows() {
+    let lent = full(&mut Random::new(5), 64).encode();
+    let sum = |row_words: usize| {
+        let words = lent.cards.iter().flat_map(|row| &row[..row_words]);
+        words.fold(0u64, |sum, word| sum.wrapping_mul(31).wrapping_add(*word))
+    };
+    let Versions { now, before } = Versions::open(&of_row_words(38), &of_row_words(34)).unwrap();
+    for (store, row_words) in [(now, 38), (before, 34)] {
+        assert_eq!(store.check(&mut store.laid_out(&lent)), (5, sum(row_words)));
+    }
+    assert_eq!(now.laid_out(&lent), lent);
+    assert_ne!(before.laid_out(&lent), lent);
+    for words in [26, 39] {
+        let refused = Versions::open(&of_row_words(38), &of_row_words(words)).err().unwrap();
+        assert!(
+            refused.ends_with(&format!("has cards of {words} words; those of [38, 34] are known"))
+        );
+    }
 }
 
 #[test]

@@ -9,7 +9,7 @@ use reference::limits::{CARD_LINKS, ENTRY_BYTES, LEVELS, PLACE_BYTES, TABLE_ENTR
 /// One way to damage lent memory.
 type Blow = fn(&mut Lent, &mut Random);
 
-const BLOWS: [Blow; 14] = [
+const BLOWS: [Blow; 16] = [
     flip_in_area,
     flip_in_table_head,
     flip_in_row,
@@ -24,6 +24,8 @@ const BLOWS: [Blow; 14] = [
     widen_link,
     empty_link,
     miscount_link,
+    flip_in_summary,
+    copy_summary,
 ];
 
 /// One to four blows; now and then one of them is a named damage.
@@ -65,6 +67,18 @@ fn flip_in_row(lent: &mut Lent, random: &mut Random) {
         _ => (random.below(ROW_LINKS + 2 * LINK_WORDS), random.below(8)),
     };
     lent.cards[place][word] ^= 1 << bit;
+}
+
+fn flip_in_summary(lent: &mut Lent, random: &mut Random) {
+    let (place, word) = (random.below(places(lent)), random.below(ROW_WORDS - ROW_SUMMARY));
+    lent.cards[place][ROW_SUMMARY + word] ^= 1 << random.below(64);
+}
+
+/// The bits of another card, which may be as good.
+fn copy_summary(lent: &mut Lent, random: &mut Random) {
+    let summary = lent.summary(random.below(places(lent)));
+    let place = random.below(places(lent));
+    put_summary(&mut lent.cards[place], &summary);
 }
 
 fn flip_in_list(lent: &mut Lent, random: &mut Random) {

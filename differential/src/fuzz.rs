@@ -15,7 +15,7 @@ use reference::generate::profile::{Source, PROFILES};
 use reference::generate::random::Random;
 use reference::generate::requests;
 use reference::implementation::Ran;
-use reference::lent::{Lent, Row, LINK_WORDS, ROW_COUNT, ROW_FREE, ROW_LINKS, ROW_WORDS};
+use reference::lent::*;
 use reference::limits::{ANSWER_ROOM, CARD_LINKS, VALUE_BYTES};
 use reference::request::split;
 use reference::rules;
@@ -159,7 +159,7 @@ pub fn sound_store(number: u16) -> Lent {
 fn damaged(tape: &mut Tape) -> Result<String, String> {
     let mut lent = sound_store(tape.pair());
     for _ in 0..=tape.byte() % 4 {
-        let (piece, place) = (tape.byte() % 8, usize::from(tape.pair()) % lent.cards.len());
+        let (piece, place) = (tape.byte() % 9, usize::from(tape.pair()) % lent.cards.len());
         let (at, bits) = (usize::from(tape.pair()), tape.byte());
         match piece {
             0 => lent.area[place * 1024 + at % 1024] ^= bits,
@@ -174,6 +174,11 @@ fn damaged(tape: &mut Tape) -> Result<String, String> {
                 linked_card(&mut lent, place)[word] ^= u64::from(bits % 16);
             }
             6 => take_last_link(linked_card(&mut lent, place)),
+            // The bits of a card.
+            7 => {
+                let word = ROW_SUMMARY + at % (ROW_WORDS - ROW_SUMMARY);
+                lent.cards[place][word] ^= u64::from(bits) << (at / 4 % 57);
+            }
             _ => lent.memory[at % 1024] ^= bits,
         }
     }
@@ -254,7 +259,8 @@ fn some_request(tape: &mut Tape) -> Vec<u8> {
             requests::put(key, &vec![choice; length])
         }
         3 => requests::delete(some_key(tape)),
-        4 => requests::look_up(some_key(tape)),
+        4 if choice < 128 => requests::look_up(some_key(tape)),
+        4 => requests::probe(some_key(tape)),
         5 => requests::scan(some_key(tape), some_key(tape)),
         6 => requests::scan(0, u64::MAX),
         7 => requests::flush(),

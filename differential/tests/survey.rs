@@ -22,7 +22,9 @@ const SEEDS: std::ops::Range<u64> = 1..5;
 /// Not reached: 32 places are too few for a level 2 that gives tables to level 3, and with them for
 /// merges there and what they hold; a merge in place of a choice is too rare for one that finds no
 /// room, and so is a merge that finds room only since delete marks go.
-const UNREACHED: [&str; 13] = [
+const UNREACHED: [&str; 15] = [
+    met::PROBED_ON_3,
+    met::PROBED_LINK_3,
     "moved from 2",
     "linked from 2",
     "due merge on 3",
@@ -100,7 +102,7 @@ fn same(name: &str, ours: &[u8], theirs: &[u8]) {
 #[test]
 fn by_hand() {
     let put_5_and_look_up: &[u8] = b"\x0D\0\x01\0\x05\0\0\0\0\0\0\0A\x0C\0\x03\0\x05\0\0\0\0\0\0\0";
-    let cases: [(&str, &[u8], &[u8]); 8] = [
+    let cases: [(&str, &[u8], &[u8]); 9] = [
         ("document 01's example", put_5_and_look_up, b"\x06\0\x01\0\0\0\x07\0\x03\0\0\0A"),
         ("nothing", b"", b""),
         ("a length of 3", b"\x03\0\x05\0", b""),
@@ -113,8 +115,13 @@ fn by_hand() {
         ),
         (
             "an unknown kind, a body too long",
-            b"\x04\0\x08\0\x05\0\x05\0\0",
-            b"\x06\0\x08\0\x10\0\x06\0\x05\0\x11\0",
+            b"\x04\0\x09\0\x05\0\x05\0\0",
+            b"\x06\0\x09\0\x10\0\x06\0\x05\0\x11\0",
+        ),
+        (
+            "a probe of a key in memory, and one without a body",
+            b"\x0D\0\x01\0\x05\0\0\0\0\0\0\0A\x0C\0\x08\0\x05\0\0\0\0\0\0\0\x04\0\x08\0",
+            b"\x06\0\x01\0\0\0\x0F\0\x08\0\0\0\x01\0\0\0\0\0\0\0A\x06\0\x08\0\x11\0",
         ),
         ("a key that is nowhere", b"\x0C\0\x03\0\x05\0\0\0\0\0\0\0", b"\x06\0\x03\0\x40\0"),
     ];

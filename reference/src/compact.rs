@@ -3,6 +3,7 @@
 use crate::limits::{LEVELS, PLACE_BYTES, TABLE_ENTRIES};
 use crate::slip::Slip;
 use crate::store::{Link, Place, Store};
+use crate::summary::NO_BITS;
 use crate::table::{greatest, Entries, Entry, Key};
 use crate::tidy::{Cause, Step};
 
@@ -84,9 +85,12 @@ impl Store {
         position
     }
 
-    /// The table joins the next level, which is empty; its place and its delete marks stay.
+    /// The table joins the next level, which is empty; its place, its bits and its delete marks stay.
     fn move_down(&mut self, level: usize, place: usize) {
         self.take_from_list(level, place);
+        if self.slips(Slip::MovedCardLosesBits) {
+            self.summaries[place] = NO_BITS;
+        }
         self.levels[level + 1].push(place);
         if self.slips(Slip::MoveDropsMarks) && level + 1 == LEVELS - 1 {
             let mut table = self.live(place).0.clone();
@@ -95,9 +99,12 @@ impl Store {
         }
     }
 
-    /// The chosen table leaves its level frozen, and its slices hang on the tables below.
+    /// The chosen table leaves its level frozen, with its bits, and its slices hang on the tables below.
     fn link(&mut self, level: usize, place: usize, links: &[(usize, Link)]) {
         self.take_from_list(level, place);
+        if self.slips(Slip::FrozenCardLosesBits) {
+            self.summaries[place] = NO_BITS;
+        }
         let table = self.live(place).0.clone();
         self.places[place] = Place::Frozen { table };
         let in_front = self.slips(Slip::NewLinkInFront);
@@ -130,7 +137,7 @@ impl Store {
         self.free_places(&freed);
     }
 
-    /// Freed places keep their bytes until they are taken again.
+    /// Freed places keep their bytes until they are taken again; their cards lose their bits.
     fn free_places(&mut self, freed: &[usize]) {
         for place in freed {
             self.places[*place] = Place::Free;

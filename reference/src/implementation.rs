@@ -2,7 +2,7 @@
 
 use crate::lent::{Lent, Row};
 use crate::reopen;
-use crate::rules::{check, letter_of};
+use crate::rules::{check_with_slip, letter_of};
 use crate::run::{make, run_with_slip};
 use crate::slip::Slip;
 
@@ -56,7 +56,7 @@ impl Implementation for Reference {
     }
 
     fn check(&self, lent: &Lent) -> (u16, u8) {
-        let verdict = check(lent);
+        let verdict = check_with_slip(lent, self.slip);
         (verdict.number, letter_of(&verdict.broken, self.slip))
     }
 

@@ -1,8 +1,9 @@
 //! The lent memory as the host sees it: bytes and numbers of any content, sound or not.
 
-use crate::limits::{CARD_LINKS, LEVELS, PLACES, PLACE_BYTES};
+use crate::limits::{CARD_LINKS, LEVELS, PLACES, PLACE_BYTES, SUMMARY_BYTES};
+use crate::summary::Summary;
 
-/// One row of a card: state, link count, then place, low, high and number of eight links.
+/// One row of a card: state, link count, then place, low, high and number of eight links, then the summary.
 pub type Row = [u64; ROW_WORDS];
 
 /// Word of a row that holds the state.
@@ -11,10 +12,15 @@ pub const ROW_STATE: usize = 0;
 pub const ROW_COUNT: usize = 1;
 /// First word of the links of a row.
 pub const ROW_LINKS: usize = 2;
+/// First word of the summary of a row: its bytes, lowest first, eight to a word.
+pub const ROW_SUMMARY: usize = ROW_LINKS + LINK_WORDS * CARD_LINKS;
 /// Words of a row.
-pub const ROW_WORDS: usize = ROW_LINKS + LINK_WORDS * CARD_LINKS;
+pub const ROW_WORDS: usize = ROW_SUMMARY + SUMMARY_BYTES / WORD_BYTES;
 /// The row of a free place.
 pub const ROW_FREE: Row = [0; ROW_WORDS];
+
+/// Bytes of a word.
+const WORD_BYTES: usize = 8;
 
 /// Words of a link, and which of them is which.
 pub const LINK_WORDS: usize = 4;
@@ -85,7 +91,12 @@ impl Lent {
     pub fn links(&self, place: usize) -> impl Iterator<Item = &[u64]> {
         let row = &self.cards[place];
         let count = row[ROW_COUNT].min(CARD_LINKS as u64) as usize;
-        row[ROW_LINKS..].chunks(LINK_WORDS).take(count)
+        row[ROW_LINKS..ROW_SUMMARY].chunks(LINK_WORDS).take(count)
+    }
+
+    /// The summary on a card.
+    pub fn summary(&self, place: usize) -> Summary {
+        summary_of_row(&self.cards[place])
     }
 
     /// The first difference to another image in words, for reports of failed tests.
@@ -108,5 +119,18 @@ impl Lent {
             return Some(format!("bytes of place {}", byte / PLACE_BYTES));
         }
         (self != other).then(|| "sizes".into())
+    }
+}
+
+/// The summary of a row as its bytes.
+pub fn summary_of_row(row: &Row) -> Summary {
+    let bytes: Vec<u8> = row[ROW_SUMMARY..].iter().flat_map(|word| word.to_le_bytes()).collect();
+    bytes.try_into().expect("four words are the bytes of a summary")
+}
+
+/// Writes a summary to its words of a row.
+pub fn put_summary(row: &mut Row, summary: &Summary) {
+    for (word, bytes) in row[ROW_SUMMARY..].iter_mut().zip(summary.chunks(WORD_BYTES)) {
+        *word = u64::from_le_bytes(bytes.try_into().expect("eight bytes are a word"));
     }
 }

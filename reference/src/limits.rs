@@ -14,6 +14,9 @@ pub const THRESHOLDS: RangeInclusive<u64> = 1..=8;
 /// The links a card has room for.
 pub const CARD_LINKS: usize = 8;
 
+/// Bytes of a card's summary: 256 bits.
+pub const SUMMARY_BYTES: usize = 32;
+
 /// The longest value.
 pub const VALUE_BYTES: usize = 51;
 

@@ -215,8 +215,8 @@ pub fn required_of_requests() -> Vec<String> {
     names.extend((1..4).flat_map(required_of_marks_on));
     let triggers = [Trigger::Count, Trigger::Weight, Trigger::Both];
     names.extend(triggers.map(|trigger| trigger_name(trigger).into()));
-    names.extend(met::ALL.map(String::from));
-    names.extend((1..8).map(|kind| format!("kind {kind} done")));
+    names.extend(met::all().map(String::from));
+    names.extend((1..9).map(|kind| format!("kind {kind} done")));
     names
 }
 

@@ -1,4 +1,4 @@
-//! Reading: look up, scan and report, in the order's read order.
+//! Reading as without summaries: look up, scan and report, in the order's read order. Look-ups are served by `probe`.
 
 use crate::limits::{LEVELS, SCAN_VALUES};
 use crate::slip::Slip;
@@ -14,8 +14,8 @@ pub struct Scanned {
 }
 
 impl Store {
-    /// The value that the first entry met in the read order gives.
-    pub fn look_up(&self, key: Key) -> Option<&[u8]> {
+    /// The value that the first entry met in the read order gives, with every table opened.
+    pub fn look_up_plainly(&self, key: Key) -> Option<&[u8]> {
         self.deciding_entry(key).and_then(Entry::value)
     }
 
@@ -36,14 +36,14 @@ impl Store {
         slices.next().or_else(|| table.get(&key))
     }
 
-    fn level_0_newest_first(&self) -> Vec<usize> {
+    pub(crate) fn level_0_newest_first(&self) -> Vec<usize> {
         if self.slips(Slip::OldestLevel0TableReadFirst) {
             return self.levels[0].clone();
         }
         self.levels[0].iter().rev().copied().collect()
     }
 
-    fn newest_first<'a>(&self, links: &'a [Link]) -> Vec<&'a Link> {
+    pub(crate) fn newest_first<'a>(&self, links: &'a [Link]) -> Vec<&'a Link> {
         if self.slips(Slip::OldestLinkReadFirst) {
             return links.iter().collect();
         }

@@ -1,7 +1,7 @@
 //! Saving a book and opening it again (note 4): what is refused, in which order, and what is left of the lent memory.
 
 use crate::lent::{Lent, Row};
-use crate::rules::{check, Broken};
+use crate::rules::{check_with_slip, Broken};
 use crate::saved::{least_bytes, Form};
 use crate::slip::Slip;
 use crate::store::Store;
@@ -29,7 +29,7 @@ pub fn save(lent: &Lent, room: usize, slip: Option<Slip>) -> SavedBook {
     if lent.places().is_some_and(|places| judges_room && room < least_bytes(places)) {
         return SavedBook::refused(3, Broken::new());
     }
-    let store = match Store::decode(lent) {
+    let store = match Store::decode_with_slip(lent, slip) {
         Ok(store) => store,
         Err(verdict) => return SavedBook::refused(verdict.number, verdict.broken),
     };
@@ -59,7 +59,7 @@ pub fn open(
     }
     let opened = form.over(lent.area.clone(), slip);
     working.copy_from_slice(&opened.cards);
-    let verdict = check(&opened);
+    let verdict = check_with_slip(&opened, slip);
     if verdict.number == 0 || slip == Some(Slip::OpenWritesBeforeCheck) {
         *lent = opened;
     }

@@ -25,11 +25,12 @@ pub const OPENINGS: [&str; 11] = [
 
 impl Trial<'_> {
     /// Saves the book, opens it over an area of so many places, in memory that held anything, and goes on there. Live and frozen
-    /// places keep their bytes; free ones and those added hold anything.
+    /// places keep their bytes, and every other free one, which may hold a former table; the rest and those added hold anything.
     pub fn reopen(&mut self, places: usize, random: &mut Random) -> Result<(), Finding> {
         let saved = self.save()?;
         let mut lent = any_lent(random, places);
-        for place in (0..self.lent.cards.len()).filter(|place| self.lent.cards[*place][0] != 0) {
+        let kept = |place: &usize| self.lent.cards[*place][0] != 0 || place.is_multiple_of(2);
+        for place in (0..self.lent.cards.len()).filter(kept) {
             lent.area[place * PLACE_BYTES..][..PLACE_BYTES].copy_from_slice(self.lent.place(place));
         }
         let mut expected = lent.clone();

@@ -20,6 +20,7 @@ pub enum Command<'a> {
     Flush,
     Tidy,
     Report,
+    Probe { key: Key },
 }
 
 /// A reply before it is written: result and body.
@@ -70,7 +71,7 @@ pub fn read<'a>(request: &Request<'a>) -> Result<Command<'a>, u16> {
     let body = request.body;
     let lengths = match request.kind {
         1 => 8..=8 + VALUE_BYTES,
-        2 | 3 => 8..=8,
+        2 | 3 | 8 => 8..=8,
         4 => 16..=16,
         5..=7 => 0..=0,
         _ => return Err(16),
@@ -87,6 +88,7 @@ pub fn read<'a>(request: &Request<'a>) -> Result<Command<'a>, u16> {
         4 => Command::Scan { low: key, high: u64_at(body, 8).unwrap_or(0) },
         5 => Command::Flush,
         6 => Command::Tidy,
-        _ => Command::Report,
+        7 => Command::Report,
+        _ => Command::Probe { key },
     })
 }

@@ -3,6 +3,7 @@
 use crate::lent::*;
 use crate::limits::{CARD_LINKS, LEVELS, THRESHOLDS};
 use crate::slip::Slip;
+use crate::summary::{summary_of, NO_BITS};
 use crate::table::{read_table, Key, Shown};
 use std::collections::{BTreeMap, BTreeSet};
 
@@ -53,10 +54,15 @@ pub struct Verdict {
 
 /// Checks lent memory of any sizes and any content.
 pub fn check(lent: &Lent) -> Verdict {
+    check_with_slip(lent, None)
+}
+
+/// The same as a mutant does it.
+pub fn check_with_slip(lent: &Lent, slip: Option<Slip>) -> Verdict {
     let Some(places) = lent.places() else {
         return Verdict { number: 1, broken: Broken::new() };
     };
-    let image = Image { lent, places };
+    let image = Image { lent, places, slip };
     let broken = image.broken();
     let number = if broken.is_empty() { 0 } else { 5 };
     Verdict { number, broken }
@@ -76,6 +82,7 @@ struct RawLink {
 struct Image<'a> {
     lent: &'a Lent,
     places: usize,
+    slip: Option<Slip>,
 }
 
 impl<'a> Image<'a> {
@@ -92,7 +99,9 @@ impl<'a> Image<'a> {
             let links = self.links();
             kept.push((Rule::E, self.rule_e(&links, &tables)));
             kept.push((Rule::F, self.rule_f(&links)));
-            kept.push((Rule::G, self.spans_apart(&links, &tables) && self.unused_is_zero()));
+            let bits_fit = self.bits_in_rule_c() || self.all_bits_right(&tables);
+            let spans_fit = self.spans_apart(&links, &tables);
+            kept.push((Rule::G, spans_fit && self.unused_is_zero() && bits_fit));
         }
         kept.iter().filter(|(_, kept)| !kept).map(|(rule, _)| *rule).collect()
     }
@@ -101,13 +110,36 @@ impl<'a> Image<'a> {
         self.lent.cards[place][ROW_STATE]
     }
 
-    /// What live and frozen places show, or none if one of them holds no table (rule C).
+    fn holds_table(&self, place: usize) -> bool {
+        matches!(self.state(place), STATE_LIVE | STATE_FROZEN)
+    }
+
+    /// What live and frozen places show, or none if one of them holds no table or has other bits on its card (rule C).
     fn tables(&self) -> Option<Vec<Shown<'a>>> {
-        let read = |place| match self.state(place) {
-            STATE_LIVE | STATE_FROZEN => read_table(self.lent.place(place), 1),
-            _ => Some(Vec::new()),
+        let read = |place| match self.holds_table(place) {
+            true => read_table(self.lent.place(place), 1),
+            false => Some(Vec::new()),
         };
-        (0..self.places).map(read).collect()
+        let tables: Option<Vec<Shown>> = (0..self.places).map(read).collect();
+        tables.filter(|tables| !self.bits_in_rule_c() || self.all_bits_right(tables))
+    }
+
+    fn bits_in_rule_c(&self) -> bool {
+        self.slip != Some(Slip::WrongBitsJudgedLast)
+    }
+
+    /// Whether the summary of each live or frozen card is that of its table's keys.
+    fn all_bits_right(&self, tables: &[Shown]) -> bool {
+        (0..self.places).all(|place| !self.holds_table(place) || self.bits_right(place, tables))
+    }
+
+    fn bits_right(&self, place: usize, tables: &[Shown]) -> bool {
+        let (own, right) =
+            (self.lent.summary(place), summary_of(tables[place].iter().map(|(key, _)| *key)));
+        if self.slip == Some(Slip::MoreBitsAreSound) {
+            return own.iter().zip(right).all(|(own, right)| own & right == right);
+        }
+        own == right
     }
 
     /// The links of all listed tables, oldest first on each.
@@ -202,20 +234,23 @@ impl<'a> Image<'a> {
         })
     }
 
-    /// Marks without a key, words beyond a card's links and items beyond a list's length.
+    /// Marks without a key, words beyond a card's links, the summary of a free card, and items beyond a list's length.
     fn unused_is_zero(&self) -> bool {
         let marks = self.lent.head[HEAD_MARKS..HEAD_LENGTHS].chunks(2);
         let marks_fit =
             marks.into_iter().all(|mark| mark[0] == 1 || (mark[0] == 0 && mark[1] == 0));
         let rows_fit = self.lent.cards.iter().all(|row| {
             let used = row[ROW_COUNT].min(CARD_LINKS as u64) as usize;
-            row[ROW_LINKS + LINK_WORDS * used..].iter().all(|word| *word == 0)
+            row[ROW_LINKS + LINK_WORDS * used..ROW_SUMMARY].iter().all(|word| *word == 0)
         });
+        let bits_fit = self.slip == Some(Slip::FreeBitsNotAsked)
+            || (0..self.places)
+                .all(|place| self.holds_table(place) || self.lent.summary(place) == NO_BITS);
         let lists_fit = (0..LEVELS).all(|level| {
             let list = &self.lent.lists[level * self.places..][..self.places];
             list[self.lent.list(level).len()..].iter().all(|item| *item == 0)
         });
-        marks_fit && rows_fit && lists_fit
+        marks_fit && rows_fit && bits_fit && lists_fit
     }
 }
 

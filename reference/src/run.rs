@@ -54,11 +54,10 @@ pub fn run_with_slip(lent: &mut Lent, list: &[u8], room: usize, slip: Option<Sli
     let Some(requests) = split(list) else {
         return Outcome::refused(4, Broken::new());
     };
-    let mut store = match Store::decode(lent) {
+    let mut store = match Store::decode_with_slip(lent, slip) {
         Ok(store) => store,
         Err(verdict) => return Outcome::refused(verdict.number, verdict.broken),
     };
-    store.slip = slip;
     if store.slips(Slip::LongEntryUnsound) && !store.broken_by_old_limit().is_empty() {
         return Outcome::refused(5, store.broken_by_old_limit());
     }
@@ -110,6 +109,7 @@ impl Store {
             Command::Scan { low, high } => self.scan_reply(low, high),
             Command::Flush => Reply::bare(self.flush()),
             Command::Tidy => self.tidy(),
+            Command::Probe { key } => self.probe_reply(key),
             Command::Report => {
                 Reply::done(self.report().iter().flat_map(|count| count.to_le_bytes()).collect())
             }

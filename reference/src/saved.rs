@@ -5,7 +5,8 @@ use crate::lent::*;
 use crate::limits::{CARD_LINKS, LEVELS, PLACES, PLACE_BYTES, TABLE_ENTRIES};
 use crate::slip::Slip;
 use crate::store::{Place, Store};
-use crate::table::{push_entry, put_table, read_entry, Key};
+use crate::summary::summary_of;
+use crate::table::{push_entry, put_table, read_entry, read_table, Key};
 
 /// The kind of a saved book.
 pub const BOOK_KIND: u16 = 48;
@@ -76,7 +77,7 @@ impl<'a> Reader<'a> {
         row[ROW_STATE] = self.at_most(STATE_FROZEN as usize)? as u64;
         let count = self.at_most(CARD_LINKS)?;
         row[ROW_COUNT] = count as u64;
-        for words in row[ROW_LINKS..].chunks_mut(LINK_WORDS).take(count) {
+        for words in row[ROW_LINKS..ROW_SUMMARY].chunks_mut(LINK_WORDS).take(count) {
             words[LINK_PLACE] = u64::from(self.number()?);
             words[LINK_LOW] = self.key()?;
             words[LINK_HIGH] = self.key()?;
@@ -134,12 +135,14 @@ impl<'a> Form<'a> {
         self.cards.len()
     }
 
-    /// The store as opened over an area of at least as many places; the added ones are free.
+    /// The store as opened over an area of at least as many places; the added ones are free. The bytes hold no summaries: they
+    /// are worked out from the area.
     pub fn over(&self, area: Vec<u8>, slip: Option<Slip>) -> Lent {
         let places = area.len() / PLACE_BYTES;
         let mut lent = Lent { area, ..Lent::zeroed(0) };
         lent.cards = self.cards.clone();
         lent.cards.resize(places, ROW_FREE);
+        work_out_bits(&mut lent, slip);
         lent.lists = vec![0; LEVELS * places];
         lent.head[HEAD_THRESHOLD] = u64::from(self.threshold);
         lent.head[HEAD_CURSOR] = match slip {
@@ -158,6 +161,21 @@ impl<'a> Form<'a> {
         }
         lent.memory = put_table(&self.memory);
         lent
+    }
+}
+
+/// Gives each live or frozen card the summary of the table in its place; where that holds none, the card keeps no bits.
+fn work_out_bits(lent: &mut Lent, slip: Option<Slip>) {
+    if slip == Some(Slip::OpenLeavesBitsOut) {
+        return;
+    }
+    for place in 0..lent.cards.len() {
+        let in_use = lent.cards[place][ROW_STATE] != STATE_FREE;
+        if in_use || slip == Some(Slip::OpenGivesFreeCardsBits) {
+            let shown = read_table(lent.place(place), 1).unwrap_or_default();
+            let summary = summary_of(shown.iter().map(|(key, _)| *key));
+            put_summary(&mut lent.cards[place], &summary);
+        }
     }
 }
 

@@ -187,4 +187,50 @@ slips! {
     SpanOfSingleRanges,
     /// A delete mark stays only where a lower-lying table or slice has an entry under its very key.
     SpanOfExactKeys,
+
+    // Summary bits (note 6): which bits a card has.
+    /// The third bit's sum weighs a key's bytes from 0 and not from 1.
+    WeightsFromZero,
+    /// A summary leaves out the keys of delete marks.
+    MarksWithoutBits,
+    /// A card keeps its bits when its place is freed.
+    BitsLeftOnFreedCard,
+    /// A card loses its bits when its table is frozen.
+    FrozenCardLosesBits,
+    /// A card loses its bits when its table moves.
+    MovedCardLosesBits,
+    /// Opening a saved book leaves all bits clear.
+    OpenLeavesBitsOut,
+    /// Opening a saved book also gives bits to free cards whose places still hold a table.
+    OpenGivesFreeCardsBits,
+    /// A summary is sound if it has the bits of all keys, whatever others it has.
+    MoreBitsAreSound,
+    /// The bits of free cards may be anything.
+    FreeBitsNotAsked,
+    /// Wrong bits of live and frozen cards break rule G and not C.
+    WrongBitsJudgedLast,
+
+    // Summary bits (note 6): which tables are asked, and what kind 8 says.
+    /// A table of level 0 is asked only for keys between its least and its greatest one.
+    Level0AskedByKeys,
+    /// On levels 1 to 3 a table is asked only for keys between its least and greatest own ones, and not by its span.
+    AskedByOwnKeys,
+    /// All links of a table are asked, whatever their ranges.
+    LinksAskedBeyondRange,
+    /// Memory counts as a table opened where it decides.
+    MemoryCounted,
+    /// Tables that are asked and not opened count as opened.
+    ClosedTablesCounted,
+    /// The table with the entry that decides does not count.
+    DecidingTableNotCounted,
+    /// The bits are those of the last table opened, and not of all.
+    BitsOfLastTableAlone,
+    /// The bits are three for each key, although some coincide.
+    ThreeBitsForEachKey,
+    /// A delete mark that decides counts as found.
+    FoundByMark,
+    /// An empty value does not count as found.
+    EmptyValueNotFound,
+    /// Kind 8 replies 64 where there is no value.
+    ProbeSays64,
 }

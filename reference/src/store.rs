@@ -2,8 +2,9 @@
 
 use crate::lent::*;
 use crate::limits::{LEVELS, PLACE_BYTES};
-use crate::rules::{check, Verdict};
+use crate::rules::{check_with_slip, Verdict};
 use crate::slip::Slip;
+use crate::summary::{summary_of_table, Summary, NO_BITS};
 use crate::table::{greatest, least, owned, read_table, table_bytes, Entries, Key};
 
 /// A slice link: a frozen place, a key range, both ends included, and the number of the place's entries in it.
@@ -40,6 +41,8 @@ pub struct Store {
     pub levels: [Vec<usize>; LEVELS],
     pub memory: Entries,
     pub places: Vec<Place>,
+    /// The summary on each place's card; what stands here for a free place is not on its card.
+    pub summaries: Vec<Summary>,
     pub area: Vec<u8>,
     /// The planted mistake, if this store is a mutant.
     pub slip: Option<Slip>,
@@ -48,7 +51,12 @@ pub struct Store {
 impl Store {
     /// Decodes lent memory if it is a sound store.
     pub fn decode(lent: &Lent) -> Result<Store, Verdict> {
-        let verdict = check(lent);
+        Store::decode_with_slip(lent, None)
+    }
+
+    /// The same as a mutant does it.
+    pub fn decode_with_slip(lent: &Lent, slip: Option<Slip>) -> Result<Store, Verdict> {
+        let verdict = check_with_slip(lent, slip);
         if verdict.number != 0 {
             return Err(verdict);
         }
@@ -69,17 +77,18 @@ impl Store {
             levels: [list(0), list(1), list(2), list(3)],
             memory: read(&lent.memory, 0),
             places: (0..count).map(|place| decode_place(lent, place)).collect(),
+            summaries: (0..count).map(|place| lent.summary(place)).collect(),
             area: lent.area.clone(),
-            slip: None,
+            slip,
         })
     }
 
     /// All the lent memory that this store stands for.
     pub fn encode(self) -> Lent {
         let count = self.places.len();
+        let cards = (0..count).map(|place| self.encode_card(place)).collect();
         let mut lent =
-            Lent { area: self.area, memory: table_bytes(&self.memory), ..Lent::zeroed(0) };
-        lent.cards = self.places.iter().map(encode_card).collect();
+            Lent { area: self.area, cards, memory: table_bytes(&self.memory), ..Lent::zeroed(0) };
         lent.lists = vec![0; LEVELS * count];
         lent.head[HEAD_THRESHOLD] = self.threshold as u64;
         lent.head[HEAD_CURSOR] = self.cursor as u64;
@@ -95,6 +104,29 @@ impl Store {
             }
         }
         lent
+    }
+
+    /// The card of a place. A free one has no bits.
+    fn encode_card(&self, place: usize) -> Row {
+        let mut row = ROW_FREE;
+        row[ROW_STATE] = match &self.places[place] {
+            Place::Free => STATE_FREE,
+            Place::Frozen { .. } => STATE_FROZEN,
+            Place::Live { .. } => STATE_LIVE,
+        };
+        if row[ROW_STATE] != STATE_FREE || self.slips(Slip::BitsLeftOnFreedCard) {
+            put_summary(&mut row, &self.summaries[place]);
+        }
+        if let Place::Live { links, .. } = &self.places[place] {
+            row[ROW_COUNT] = links.len() as u64;
+            for (words, link) in row[ROW_LINKS..ROW_SUMMARY].chunks_mut(LINK_WORDS).zip(links) {
+                words[LINK_PLACE] = link.place as u64;
+                words[LINK_LOW] = link.low;
+                words[LINK_HIGH] = link.high;
+                words[LINK_NUMBER] = link.number as u64;
+            }
+        }
+        row
     }
 
     /// Whether this store has the given slip planted.
@@ -134,6 +166,14 @@ impl Store {
         }
     }
 
+    /// The table of a place that a list or a link names.
+    pub fn table(&self, place: usize) -> &Entries {
+        match &self.places[place] {
+            Place::Live { table, .. } | Place::Frozen { table } => table,
+            Place::Free => unreachable!("rules B and F: what is named holds a table"),
+        }
+    }
+
     /// From the least to the greatest of a table's own keys and its links' range ends.
     pub fn span(&self, place: usize) -> (Key, Key) {
         let (table, links) = self.live(place);
@@ -148,10 +188,22 @@ impl Store {
         self.area[place * PLACE_BYTES..][..PLACE_BYTES].copy_from_slice(&table_bytes(table));
     }
 
+    /// Writes a table's bytes to a place, and its bits to the card.
+    pub fn write_with_bits(&mut self, place: usize, table: &Entries) {
+        self.write_bytes(place, table);
+        self.summaries[place] = summary_of_table(table, self.slip);
+    }
+
     /// Makes a place hold a live table without links.
     pub fn settle(&mut self, place: usize, table: Entries) {
-        self.write_bytes(place, &table);
+        self.write_with_bits(place, &table);
         self.places[place] = Place::Live { table, links: Vec::new() };
+    }
+
+    /// Makes a place hold a frozen table, which links name already or will.
+    pub fn settle_frozen(&mut self, place: usize, table: Entries) {
+        self.write_with_bits(place, &table);
+        self.places[place] = Place::Frozen { table };
     }
 
     /// How many places are free.
@@ -185,25 +237,6 @@ fn decode_link(words: &[u64]) -> Link {
     }
 }
 
-fn encode_card(place: &Place) -> Row {
-    let mut row = ROW_FREE;
-    match place {
-        Place::Free => row[ROW_STATE] = STATE_FREE,
-        Place::Frozen { .. } => row[ROW_STATE] = STATE_FROZEN,
-        Place::Live { links, .. } => {
-            row[ROW_STATE] = STATE_LIVE;
-            row[ROW_COUNT] = links.len() as u64;
-            for (words, link) in row[ROW_LINKS..].chunks_mut(LINK_WORDS).zip(links) {
-                words[LINK_PLACE] = link.place as u64;
-                words[LINK_LOW] = link.low;
-                words[LINK_HIGH] = link.high;
-                words[LINK_NUMBER] = link.number as u64;
-            }
-        }
-    }
-    row
-}
-
 /// A new store over an area whose bytes stay as found.
 pub fn new_store(area: Vec<u8>, threshold: usize) -> Store {
     Store {
@@ -213,6 +246,7 @@ pub fn new_store(area: Vec<u8>, threshold: usize) -> Store {
         levels: Default::default(),
         memory: Entries::new(),
         places: vec![Place::Free; area.len() / PLACE_BYTES],
+        summaries: vec![NO_BITS; area.len() / PLACE_BYTES],
         area,
         slip: None,
     }

@@ -91,7 +91,7 @@ fn write_list(list: &[u8], whole: bool, out: &mut dyn Write) -> Result<(), Failu
 
 /// The name of a kind of request.
 fn kind_words(kind: u16) -> String {
-    let names = ["put", "del", "get", "scan", "flush", "tidy", "report"];
+    let names = ["put", "del", "get", "scan", "flush", "tidy", "report", "probe"];
     let name = names.get(usize::from(kind).wrapping_sub(1));
     name.map_or_else(|| format!("kind {kind}"), |name| name.to_string())
 }
@@ -102,7 +102,9 @@ pub fn request_words(request: &Request, whole: bool) -> String {
     let key = |key| key_words(key, whole);
     match request {
         Request::Put(at, value) => format!("{name} {} {}", key(*at), value_words(value)),
-        Request::Delete(at) | Request::LookUp(at) => format!("{name} {}", key(*at)),
+        Request::Delete(at) | Request::LookUp(at) | Request::Probe(at) => {
+            format!("{name} {}", key(*at))
+        }
         Request::Scan(low, high) => format!("{name} {} {}", key(*low), key(*high)),
         Request::Flush | Request::Tidy | Request::Report => name,
     }

@@ -6,7 +6,7 @@ use zilgwern::{Key, Request};
 /// What a line asks for.
 #[derive(Clone, PartialEq, Eq, Debug)]
 pub enum Command {
-    /// A request, just as it is: put, get, del, flush, tidy, report.
+    /// A request, just as it is: put, get, del, flush, tidy, report, probe.
     Ask(Request),
     /// All values of a range, however many.
     Scan(Key, Key),
@@ -52,6 +52,7 @@ impl Command {
             }
             "tidy" => Command::Ask(Request::Tidy),
             "report" => Command::Ask(Request::Report),
+            "probe" => Command::Ask(Request::Probe(take_key(rest)?)),
             "check" => Command::Check,
             "show" => Command::Show,
             "help" | "?" => Command::Help(take_word(rest).into()),

@@ -1,5 +1,6 @@
 //! The bytes of a store file: a head of sixteen bytes, the area, then the saved book, which has the customer's format. They are in
-//! one file, so area and book are always of one moment. The form before this one, the plain bytes of what is lent, is still read.
+//! one file, so area and book are always of one moment. The form before this one, the plain bytes of what is lent before cards had
+//! summaries, is still read.
 
 use crate::failure::Failure;
 use zilgwern::{most_saved_bytes, Error, Memory, Refused, Store, PLACES, PLACE_BYTES};
@@ -15,8 +16,8 @@ const BOOK_KIND: usize = 48;
 /// No store file has more bytes, whatever its form.
 pub const MOST_BYTES: usize = {
     let places = *PLACES.end();
-    let (now, before) =
-        (HEAD_BYTES + PLACE_BYTES * places + most_saved_bytes(places), Memory::byte_count(places));
+    let now = HEAD_BYTES + PLACE_BYTES * places + most_saved_bytes(places);
+    let before = Memory::form_2_byte_count(places);
     if now > before {
         now
     } else {
@@ -48,7 +49,7 @@ pub fn open(bytes: &[u8]) -> Result<Opened, Failure> {
         1 => Failure::from(error).hinted(form_words(bytes)),
         _ => Failure::from(error),
     };
-    let memory = Memory::from_bytes(bytes).map_err(|error| refused(error.into()))?;
+    let memory = Memory::from_form_2(bytes).map_err(|error| refused(error.into()))?;
     Ok(Opened { store: Store::open_owned(memory).map_err(refused)?, old: true })
 }
 
@@ -119,7 +120,7 @@ fn number(bytes: &[u8]) -> usize {
 
 /// What is wrong with a file that has neither form.
 fn form_words(bytes: &[u8]) -> String {
-    let is_whole = |places: usize| Memory::byte_count(places) == bytes.len();
+    let is_whole = |places: usize| Memory::form_2_byte_count(places) == bytes.len();
     match bytes {
         _ if Memory::is_form_1(bytes) => "It is a store file of the first form, from before links had numbers, and can't be \
              opened. Print its values with `scan` of the surveyctl that wrote it, and put them into a new store. Nothing was \
@@ -134,7 +135,8 @@ fn form_words(bytes: &[u8]) -> String {
 
 /// What is wrong with a file of this length.
 fn length_words(length: usize) -> String {
-    let (fixed, each) = (Memory::byte_count(0), Memory::byte_count(1) - Memory::byte_count(0));
+    let fixed = Memory::form_2_byte_count(0);
+    let each = Memory::form_2_byte_count(1) - fixed;
     let more = if length > MOST_BYTES { "more than " } else { "" };
     let (least, most, length) = (PLACES.start(), PLACES.end(), length.min(MOST_BYTES));
     format!(

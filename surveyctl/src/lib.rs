@@ -10,6 +10,7 @@ mod help;
 mod loops;
 mod options;
 mod picture;
+mod probe;
 mod replay;
 mod saved;
 mod session;

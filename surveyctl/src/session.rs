@@ -5,8 +5,8 @@ use crate::failure::Failure;
 use crate::file::StoreFile;
 use crate::help;
 use crate::options::Options;
-use crate::picture;
 use crate::words::{key_words, value_words};
+use crate::{picture, probe};
 use std::io::Write;
 use zilgwern::{Key, List, Page, Refusal, Reply, Report, Request, Step, Stepped, Store};
 
@@ -47,6 +47,7 @@ impl Session {
     /// Does a command and prints what came of it.
     pub fn perform(&mut self, command: Command, out: &mut dyn Write) -> Result<(), Failure> {
         match command {
+            Command::Ask(Request::Probe(key)) => self.probe(key, out),
             Command::Ask(request) => self.ask(&request, out),
             Command::Scan(low, high) => self.scan(low, high, out),
             Command::TidyAll => self.tidy_all(out),
@@ -77,6 +78,13 @@ impl Session {
             [Reply::NoValue] => Err(Failure::NoValue),
             _ => Ok(()),
         }
+    }
+
+    /// What a look-up gives, and the tables that it opens.
+    fn probe(&mut self, key: Key, out: &mut dyn Write) -> Result<(), Failure> {
+        let reply = self.store.probe(key)?;
+        writeln!(out, "{}", probe::reply_words(&reply))?;
+        Ok(out.write_all(probe::opened_words(&self.store.view(), key).as_bytes())?)
     }
 
     fn scan(&mut self, low: Key, high: Key, out: &mut dyn Write) -> Result<(), Failure> {
@@ -133,6 +141,7 @@ pub fn reply_words(reply: &Reply, whole: bool) -> String {
         }
         Reply::Page(page) => page_words(page, whole),
         Reply::Report(report) => report_words(report),
+        Reply::Probe(probe) => probe::reply_words(probe),
         Reply::Refused(refusal) => refusal_words(*refusal),
     }
 }

@@ -1,4 +1,4 @@
-//! Keys and values in words, both ways: what is printed can be typed again.
+//! Keys and values in words, both ways: what is printed can be typed again; and counts.
 
 use zilgwern::Key;
 
@@ -211,4 +211,22 @@ pub fn value_words(value: &[u8]) -> String {
 fn hex_words(bytes: &[u8]) -> String {
     let digits: String = bytes.iter().map(|byte| format!("{byte:02x}")).collect();
     format!("hex:{digits}")
+}
+
+/// One or several of a thing.
+pub fn counted(count: usize, one: &str, several: &str) -> String {
+    match count {
+        1 => format!("1 {one}"),
+        _ => format!("{count} {several}"),
+    }
+}
+
+/// So many of so many, in whole percent.
+pub fn percent(part: usize, whole: usize) -> usize {
+    (100 * part + whole / 2) / whole
+}
+
+/// How many of the bits are set.
+pub fn share_words(set: usize, bits: usize) -> String {
+    format!("{set} of {bits} bits ({} %)", percent(set, bits))
 }

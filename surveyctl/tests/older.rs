@@ -1,13 +1,13 @@
-//! Files of the forms before this one. The second, the plain bytes of what is lent, is still read, and a damaged one is refused by the
-//! letter of the first broken rule; the first is told by name and never read.
+//! Files of the forms before this one. The second, the plain bytes of what is lent before cards had summaries, is still read, and a
+//! damaged one is refused by the letter of the first broken rule; the first is told by name and never read.
 
 mod common;
 
 use common::damaged::{self, Damage};
-use common::{Came, Folder};
+use common::{second_form, Came, Folder};
 use zilgwern::{Rule, Store};
 
-/// The bytes of a card, and where the pieces of an older file of 16 places begin.
+/// The bytes of a card then, and where the pieces of an older file of 16 places begin.
 const CARD: usize = 8 * 34;
 const CARDS: usize = 16 * 1024;
 const LISTS: usize = CARDS + 16 * CARD;
@@ -24,7 +24,7 @@ fn linked(name: &str) -> (Folder, Vec<u8>) {
         store.flush().unwrap();
     }
     (0..2).for_each(|_| assert!(store.tidy().unwrap().is_some()));
-    let bytes = store.memory().to_bytes();
+    let bytes = second_form(&store.memory());
     assert_eq!(
         (bytes[CARDS], bytes[CARDS + 8], bytes[CARDS + 16], bytes[CARDS + CARD]),
         (1, 1, 1, 2)
@@ -74,6 +74,10 @@ fn an_older_file_grows_and_is_saved() {
     folder.done(&["--store", "t", "open", "--book", "b", "--area", "a"]);
     let shown = folder.done(&["--store", "t", "show"]);
     assert!(shown.contains("3 live, 1 frozen") && shown == folder.call(&["-s", "s", "show"]).out);
+    // The bits are worked out from the area: a look-up opens the one table that has them.
+    let probed = "found, 1 table opened, 1 bit set: v\n  place 1, linked from 0 on level 1: 1 of 256 bits (0 %), value\n  \
+                  2 tables asked and not opened: a bit of the key is clear\n";
+    assert_eq!(folder.call(&["-s", "s", "probe", "2"]).out, probed);
     let came = folder.call(&["--store", "s", "grow", "--places", "24"]);
     let printed = "s: 16 places before, 24 now\n";
     assert_eq!(came, Came { status: 0, out: printed.into(), err: OLD.into() });
@@ -126,10 +130,10 @@ fn first_form(places: usize) -> Vec<u8> {
 fn files_of_another_form_are_told_and_left_as_they_are() {
     let (folder, sound) = linked("forms");
     let mut later = sound.clone();
-    later[FORM] = 3;
+    later[FORM] = 4;
     let first = "It is a store file of the first form, from before links had numbers,";
     let other = "its last eight bytes, which say the form, are others.";
-    // 61 places of the first form are as long as 58 of this one, 163 as long as 155 and eight bytes less.
+    // 61 places of the first form are as long as 58 of the second, 163 as long as 155 and eight bytes less.
     let files = [(first_form(16), first), (first_form(61), first), (first_form(163), first)];
     assert_eq!((files[0].0.len(), files[1].0.len()), (16 * 1240 + 1104, 58 * 1304 + 1112));
     for (bytes, told) in files.into_iter().chain([(later, other)]) {

@@ -18,24 +18,26 @@ fn small(name: &str) -> Folder {
 #[test]
 fn the_picture_in_text() {
     let folder = small("text");
-    // Seven keys share the 30 columns; a bar begins and ends with the columns that its keys touch.
+    // Seven keys share the 26 columns; a bar begins and ends with the columns that its keys touch.
     let expected = "\
 16 places: 12 free, 3 live, 1 frozen; 1 link
 threshold 1, cursor 4
+summary bits set: 1 % of 256 on average, at most 1 %
 
-memory            1  .................#####........  50 to 50
+memory            1       ..............#####.......  50 to 50
 level 0: 2 tables (capacity 2), oldest first
-  place 2         1  .....................#####....  12 1.000 to 1.000
-  place 3         1  .........................#####  12 2.000 to 2.000
+  place 2         1   1%  ..................#####...  12 1.000 to 1.000
+  place 3         1   1%  ......................####  12 2.000 to 2.000
 level 1: 1 table (capacity 8); merge due: place 0
-  place 0       2/2  ##################............  10 to 40
-  + place 1       2  ==============================  0 to last
+  place 0       2/2   1%  ###############...........  10 to 40
+  + place 1       2       ==========================  0 to last
 level 2: 0 tables (capacity 32)
 level 3: 0 tables
 frozen, linked from level 1: 1 table
-  place 1         2  ....=========.................  20 to 30
+  place 1         2   1%  ...=========..............  20 to 30
 entries: # a table's own keys, = the slice of a link, - merged already
 n/m: m own entries, n in links; a merge is due at 1 link, or at m/m or more
+n%: of the 256 bits of a table's summary, so many are set
 places: . free, 0 to 3 live on that level, f frozen
      0  1f00............
 ";
@@ -90,11 +92,11 @@ fn a_merge_is_due_by_weight() {
     assert!(light.contains("  place 0       1/3  ") && !light.contains("merge due:"), "{light}");
     let heavy = show("tidy\n".into());
     assert!(heavy.contains("level 1: 1 table (capacity 8); merge due: place 0\n"), "{heavy}");
-    for row in ["  place 0       3/3  ", "  + place 2       2  ", "  + place 1       1  "] {
+    for row in ["  place 0       3/3   1%  ", "  + place 2       2  ", "  + place 1       1  "] {
         assert!(heavy.contains(row), "{heavy}");
     }
     let svg = folder.done(&["--store", "s", "show", "--svg", "-"]);
-    let tip = "merge due: 3 entries, 10 to 30; its 2 links weigh 3 against 3<";
+    let tip = "merge due: 3 entries, 10 to 30; 3 of 256 bits (1 %); its 2 links weigh 3 against 3<";
     let slices = ["class=\"slice\">1<", "class=\"slice\">2<"];
     for words in [tip, ">0: 3/3<"].iter().chain(&slices) {
         assert!(svg.contains(words), "{words}");
@@ -102,6 +104,34 @@ fn a_merge_is_due_by_weight() {
     assert_eq!(folder.done(&["--store", "s", "tidy"]), "merged a table, level 1\n");
     let merged = folder.done(&["--store", "s", "show", "--ascii"]);
     assert!(!merged.contains("merge due:") && merged.contains("; 0 links\n"), "{merged}");
+}
+
+/// Forty-five bits in one table of sixteen keys, four in another: 45 of 256 are 18 %, and 49 of 512 are 10 %.
+#[test]
+fn summaries_are_shown_by_their_share() {
+    let folder = Folder::new("share");
+    let first: String = (0..16).map(|n| format!("put {} {}.000 v\n", 1 + 7 * n, 3 * n)).collect();
+    let lines = format!("{first}flush\nput 1 v\nput 2 v\nput 3 v\nput 4 v\nflush\nshow\n");
+    let came = folder.call_with(&[], lines.as_bytes());
+    let keys: Vec<u64> = (0..16).map(|n| ((1 + 7 * n) << 40) + 3000 * n).collect();
+    let bits = |key: &u64| {
+        let bytes = key.to_le_bytes().map(u64::from);
+        let weighed: u64 = (1..).zip(bytes).map(|(weight, byte)| weight * byte).sum();
+        let xor = bytes.into_iter().fold(0, |xor, byte| xor ^ byte);
+        [xor, bytes.iter().sum::<u64>() % 256, weighed % 256]
+    };
+    let set: std::collections::BTreeSet<u64> = keys.iter().flat_map(bits).collect();
+    assert_eq!(set.len(), 45);
+    for row in [
+        "\nsummary bits set: 10 % of 256 on average, at most 18 %\n\n",
+        "\n  place 0        16  18%  ",
+        "\n  place 1         4   2%  ",
+    ] {
+        assert!(came.out.contains(row), "{}", came.out);
+    }
+    // Without tables there is no share.
+    let came = folder.call_with(&[], b"put 1 v\nshow\n");
+    assert!(came.out.contains("threshold 4, cursor 0\n\nmemory"), "{}", came.out);
 }
 
 /// Marks under 1 and 2 hang on level 1 in a slice, one under 40 stands on level 0, one under 9 in memory.
@@ -139,12 +169,15 @@ fn the_picture_as_an_svg() {
     assert!(open.is_empty());
     assert!(svg.starts_with("<svg xmlns=\"http://www.w3.org/2000/svg\" "));
     // The part that waits for its merge is filled in the frozen table.
-    assert_eq!(svg.matches("frozen: 2 entries, 20 to 30; 2 entries wait</title>").count(), 1);
+    let waiting = "frozen: 2 entries, 20 to 30; 2 of 256 bits (1 %); 2 entries wait</title>";
+    assert_eq!(svg.matches(waiting).count(), 1);
+    let title = "; cursor 4; summary bits set: 1 % of 256 on average, at most 1 %</text>";
+    assert!(svg.contains(title));
     for tip in [
         "memory: 1 entry, 50 to 50",
-        "place 2, level 0: 1 entry, 12 1.000 to 1.000",
-        "place 0, level 1, merge due: 2 entries, 10 to 40; its link weighs 2 against 2",
-        "place 1, frozen: 2 entries, 20 to 30",
+        "place 2, level 0: 1 entry, 12 1.000 to 1.000; 3 of 256 bits (1 %)",
+        "place 0, level 1, merge due: 2 entries, 10 to 40; 2 of 256 bits (1 %); its link weighs 2 against 2",
+        "place 1, frozen: 2 entries, 20 to 30; 2 of 256 bits (1 %)",
         "link of place 0 to place 1: 2 entries, 0 to last",
         "place 1: frozen",
         "place 15: free",
@@ -198,7 +231,8 @@ fn lines_begin_at_frozen_tables() {
         .collect();
     assert_eq!(lines.len(), 2);
     for (place, range) in [(1, "1 to 2"), (2, "3 to 4")] {
-        let tip = format!("place {place}, frozen: 2 entries, {range}; 2 entries wait");
+        let bits = "2 of 256 bits (1 %)";
+        let tip = format!("place {place}, frozen: 2 entries, {range}; {bits}; 2 entries wait");
         let (from, to) = reach(&svg, &tip);
         assert!(lines.iter().any(|x| (from..to).contains(x)), "{place}: {from} to {to}, {lines:?}");
     }

@@ -4,7 +4,7 @@
 mod common;
 
 use common::stopped::{self, Call, Stop, Traced};
-use common::{Came, Folder};
+use common::{second_form, Came, Folder};
 use std::fs::File;
 use std::os::unix::fs::symlink;
 use zilgwern::{Memory, Store};
@@ -127,9 +127,9 @@ fn a_put_to_an_older_file_that_is_ended_anywhere_leaves_one_of_them() {
     let folder = Folder::new("ended_older");
     let mut store = Store::owned(16, 4).unwrap();
     store.put(5, b"before").unwrap();
-    folder.write("s", store.memory().to_bytes());
+    folder.write("s", second_form(&store.memory()));
     let (tried, calls) = Tried::new(folder, &["-s", "s", "put", "5", "after"]);
-    assert_eq!(tried.before[0].1.len(), Memory::byte_count(16));
+    assert_eq!(tried.before[0].1.len(), Memory::form_2_byte_count(16));
     assert!(tried.after[0].1.starts_with(b"ZILGWERN"));
     assert!(tried.stop_everywhere(&calls, is_either) >= 5);
 }

@@ -9,7 +9,7 @@ mod opened;
 mod second;
 mod sqlite;
 
-pub use opened::Versions;
+pub use opened::{Opened, Versions};
 pub use second::Second;
 pub use sqlite::Sqlite;
 

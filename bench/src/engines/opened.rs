@@ -1,12 +1,17 @@
 //! Two proved stores in the same rounds, that of today and an earlier one. A program can be linked with one of their libraries alone,
 //! since the functions have the same names; so both are shared objects here, opened at run time. Both, because one library linked and
-//! the same one opened differ by some percent of a put in small stores.
+//! the same one opened differ by some percent of a put in small stores. The earlier one may have other rows of cards.
 
 use super::library::{functions, Library};
 use super::{boxed, Kind, BEFORE, PROVED};
 use crate::lists::{Listed, Runner};
 use reference::lent::Lent;
-use zilgwern_sys::{Head, Outcome, Row, Table};
+use reference::limits::PLACES;
+use zilgwern_sys::{Head, Outcome, Row, Table, ROW_SUMMARY, ROW_WORDS};
+
+/// Words of a row in the libraries that are known: those of today, and of before cards had summaries. Shorter ones stand at the front of
+/// the memory for today's.
+const KNOWN_ROWS: [usize; 2] = [ROW_WORDS, ROW_SUMMARY];
 
 functions! {
     /// By the signatures of `host/sys`: the five pieces, then what is the function's own.
@@ -39,6 +44,7 @@ macro_rules! call {
 pub struct Opened {
     word: &'static str,
     call: Functions,
+    row_words: usize,
 }
 
 /// The two stores.
@@ -49,12 +55,9 @@ pub struct Versions {
 }
 
 impl Versions {
-    /// Opens two shared objects; words where one can't be opened or has not the functions of a store.
+    /// Opens two shared objects; words where one can't be opened, has not the functions of a store, or rows of cards that are not known.
     pub fn open(now: &str, before: &str) -> Result<Versions, String> {
-        let opened = |word: &'static str, file: &str| -> Result<Opened, String> {
-            Ok(Opened { word, call: Functions::of(&Library::open(file)?)? })
-        };
-        Ok(Versions { now: opened(PROVED, now)?, before: opened(BEFORE, before)? })
+        Ok(Versions { now: Opened::open(PROVED, now)?, before: Opened::open(BEFORE, before)? })
     }
 
     /// The two among other stores, today's first. They stay for the rest of the run, as the libraries do.
@@ -69,7 +72,56 @@ impl Versions {
     }
 }
 
+impl Functions {
+    /// The words of a row: making a store clears so many for each place, and leaves those behind.
+    fn row_words(&self) -> usize {
+        const MARK: u64 = 0xA5A5_A5A5_A5A5_A5A5;
+        let places = *PLACES.start();
+        let mut lent = Lent::zeroed(places);
+        let mut cards = vec![MARK; places * 4 * ROW_WORDS];
+        let rows = cards.as_mut_ptr() as *mut Row;
+        // SAFETY: each pointer comes with the count of what is behind it; behind the rows there is room for longer ones.
+        let number = unsafe {
+            (self.zilgwern_make)(
+                lent.area.as_mut_ptr(),
+                lent.area.len(),
+                rows,
+                places,
+                lent.lists.as_mut_ptr(),
+                lent.lists.len(),
+                &mut lent.head,
+                &mut lent.memory,
+                1,
+            )
+        };
+        assert_eq!(number, 0, "making a store");
+        cards.iter().take_while(|word| **word == 0).count() / places
+    }
+}
+
 impl Opened {
+    fn open(word: &'static str, file: &str) -> Result<Opened, String> {
+        let call = Functions::of(&Library::open(file)?)?;
+        let row_words = call.row_words();
+        match KNOWN_ROWS.contains(&row_words) {
+            true => Ok(Opened { word, call, row_words }),
+            false => Err(format!(
+                "{file} has cards of {row_words} words; those of {KNOWN_ROWS:?} are known"
+            )),
+        }
+    }
+
+    /// The same store with its cards as this library has them.
+    pub fn laid_out(&self, lent: &Lent) -> Lent {
+        let mut laid = lent.clone();
+        let words: Vec<u64> =
+            lent.cards.iter().flat_map(|row| &row[..self.row_words]).copied().collect();
+        let all = laid.cards.as_flattened_mut();
+        all[..words.len()].copy_from_slice(&words);
+        all[words.len()..].fill(0);
+        laid
+    }
+
     /// Number and letter of a check.
     pub fn check(&self, lent: &mut Lent) -> (u64, u64) {
         let mut letter = 0;

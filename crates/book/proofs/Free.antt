@@ -15,12 +15,12 @@ use Rattle.ldc.specs.Store.{Store, isFree, size, card}
 use Rattle.ldc.specs.Lent.{lentOf}
 use Rattle.ldc.specs.Place.{nextPlace, freeFrom, placeTaken, freePlaces}
 use Rattle.ldc.proofs.Basics.Cases.{cases}
-use Rattle.ldc.proofs.Basics.ListLaws.{getD-mem, howMany-zero, map-back}
-use Rattle.ldc.proofs.Lent.Parts.{card-back}
+use Rattle.ldc.proofs.Basics.ListLaws.{getD-mem, howMany-zero}
+use Rattle.ldc.proofs.Lent.Parts.{cards-rows}
 use Rattle.ldc.proofs.Lent.Round.{few-links}
 use Rattle.ldc.proofs.Stores.Places.{next-below, none-found}
 use Rattle.ldc.proofs.Stores.Sound.{Sound}
-use Rattle.ldc.specs.Layout.{stateOf, cardOf, rowOf}
+use Rattle.ldc.specs.Layout.{stateOf, cardOf}
 use Rattle.book.specs.Place.{theIndex, freeRow, freeAt, freeRows}
 use Rattle.book.specs.declared.index.Index.{Index}
 use Rattle.book.specs.declared.index.Index.the-variants.{At, Nothing}
@@ -65,7 +65,7 @@ module _ (s : Store) (rows : List (List ℕ)) (shown : s .cards ≡ map cardOf r
 -- The rows of a sound store's memory show its cards.
 pub sound-shown : (s : Store) → Sound s → s .cards ≡ map cardOf (lentOf s .cards)
 unfolding lentOf
-sound-shown s so = sym (map-back rowOf cardOf (s .cards) (λ c m. card-back c (few-links s so c m)))
+sound-shown s so = sym (cards-rows (s .cards) (s .places) (few-links s so))
 
 -- ---- what a search says of the rows themselves
 

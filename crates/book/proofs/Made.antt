@@ -22,7 +22,8 @@ use Rattle.ldc.proofs.Basics.ListLaws.{length-parts, flat-parts}
 use Rattle.ldc.proofs.Lent.Parts.{padded}
 use Rattle.ldc.proofs.Lent.Round.{chop-parts}
 use Rattle.ldc.proofs.Lent.Shows.{sizes}
-use Rattle.ldc.specs.Layout.{rowOf, mostPlaces, fewestPlaces, levelCount}
+use Rattle.summary.specs.Summary.{summaryWords}
+use Rattle.ldc.specs.Layout.{rowWith, rowOf, rowsOf, mostPlaces, fewestPlaces, levelCount}
 use Rattle.book.specs.Made.{made, allFree}
 use Rattle.book.specs.Pieces.{lent}
 
@@ -39,12 +40,12 @@ sizes-by m area cards lists a b d = rw (a, b, d)
 
 -- ---- the pieces of a new store's memory
 
-pub free-rows : (places rows : List (List ℕ)) → length rows ≡ length places → map rowOf (map (λ _. free) places) ≡ allFree rows
-unfolding allFree
+pub free-rows : (places rows : List (List ℕ)) → length rows ≡ length places → rowsOf (map (λ _. free) places) places ≡ allFree rows
+unfolding allFree rowOf
 free-rows [] [] h = refl
 free-rows [] (r ∷ rows) h = absurd (omega arith)
 free-rows (p ∷ places) [] h = absurd (omega arith)
-free-rows (p ∷ places) (r ∷ rows) h = ap (λ rs. rowOf free ∷ rs) (free-rows places rows (omega arith))
+free-rows (p ∷ places) (r ∷ rows) h = ap (λ rs. rowWith free (zeros summaryWords) ∷ rs) (free-rows places rows (omega arith))
 
 four-zeros : (n : ℕ) → zeros n ++ (zeros n ++ (zeros n ++ (zeros n ++ []))) ≡ zeros (4 * n)
 unfolding zeros
@@ -75,7 +76,7 @@ module _ (m : Lent) (t : ℕ) where
         let n = placesIn (m .area) in
         let long : length (chop n (m .area)) ≡ n = rw chop-parts (length-parts placeSize n (m .area)) in
         let area : flat (chop n (m .area)) ≡ m .area = rw chop-parts (flat-parts placeSize n (m .area) (z .area)) in
-        let cards : map rowOf (map (λ _. free) (chop n (m .area))) ≡ allFree (m .cards) =
+        let cards : rowsOf (map (λ _. free) (chop n (m .area))) (chop n (m .area)) ≡ allFree (m .cards) =
         free-rows (chop n (m .area)) (m .cards) (z .cards ∙ sym long) in
         let lists : flat (map (padded (length (chop n (m .area)))) ([] ∷ [] ∷ [] ∷ [] ∷ [])) ≡ zeros (length (m .lists)) =
         rw (long, z .lists) (empty-lists n) in
@@ -100,7 +101,7 @@ blank (suc n) = rw (blank n)
 
 -- What is left to be made free is this row and those behind it.
 pub free-all-turn : (rows : List (List ℕ)) (i : ℕ) → i < length rows
-    → sets rows i (allFree (drop i rows)) ≡ sets (set rows i (rowOf free)) (i + 1) (allFree (drop (i + 1) (set rows i (rowOf free))))
+    → sets rows i (allFree (drop i rows)) ≡ sets (set rows i (rowWith free (zeros summaryWords))) (i + 1) (allFree (drop (i + 1) (set rows i (rowWith free (zeros summaryWords)))))
 unfolding allFree
 free-all-turn rows i h =
-    rw (add-one i, drop-set-lt (suc i) rows i (rowOf free) (omega arith), drop-cons rows i [] h)
+    rw (add-one i, drop-set-lt (suc i) rows i (rowWith free (zeros summaryWords)) (omega arith), drop-cons rows i [] h)

@@ -1,11 +1,12 @@
 -- A level's part of the lists: where it lies, and its items in use and behind them.
-use Prim.Native.Nat.{ℕ, zero, suc, _+_, _*_, _-_, _≤_, _<_}
+use Prim.Native.Nat.{ℕ, _+_, _*_, _-_, _≤_, _<_}
 use mathlib.Core.Path.{_≡_, sym}
-use mathlib.Core.List.{List, [], _∷_}
+use mathlib.Core.List.{List}
 use native.Mathlib.Omega.{arith}
 use native.Mathlib.Nat.{mul-le-mul-right, suc-mul}
 use lib.ListN.{take, drop}
-use lib.Seq.{take-nil, take-take, drop-drop}
+use lib.Seq.{take-take, drop-drop}
+use Rattle.ldc.proofs.Basics.ListLaws.{drop-take}
 use Rattle.ldc.specs.Layout.{partIn}
 
 pub part-fits : (n k places : ℕ) → n < k → n * places + places ≤ k * places
@@ -20,12 +21,6 @@ pub items-part : (places : ℕ) (lists : List ℕ) (len n : ℕ) → len ≤ pla
 items-part places lists len n h =
     let e : n * places + len - n * places ≡ len = omega arith in
     rw e (sym (items-whole places lists len n h))
-
-drop-take : (len k : ℕ) (xs : List ℕ) → drop len (take k xs) ≡ take (k - len) (drop len xs)
-drop-take zero k xs = let e : k - 0 ≡ k = omega arith in rw e
-drop-take (suc len) zero xs = let e : 0 - suc len ≡ 0 = omega arith in rw e
-drop-take (suc len) (suc k) [] = sym (take-nil (suc k - suc len))
-drop-take (suc len) (suc k) (x ∷ xs) = let e : suc k - suc len ≡ k - len = omega arith in rw e (drop-take len k xs)
 
 pub rest-part : (places : ℕ) (lists : List ℕ) (len n : ℕ) → len ≤ places
     → take (n * places + places - (n * places + len)) (drop (n * places + len) lists) ≡ drop len (partIn places lists n)

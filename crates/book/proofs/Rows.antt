@@ -3,27 +3,28 @@
 use Prim.Native.Nat.{ℕ, zero, suc, _+_, _*_, _-_, _≤_, _<_, min}
 use mathlib.Core.Path.{_≡_, refl, sym, _∙_, ap}
 use mathlib.Core.Bool.{Bool, true, false, not, _&&_}
-use mathlib.Core.List.{List, [], _∷_, _++_, map, append-assoc}
+use mathlib.Core.List.{List, [], _∷_, _++_, map, append-assoc, append-nil}
 use native.Mathlib.Omega.{arith}
 use native.Mathlib.Nat.{add-zero}
 use native.Mathlib.Numerals.{add-one, add-two}
 use borrow.Author.Tests.{eqb-true}
 use lib.Dec.{eqb}
-use lib.ListN.{length, getD, set, drop, length-append}
-use lib.Seq.{sets, drop-cons}
+use lib.ListN.{length, getD, set, take, drop, length-append, length-drop, take-append-drop}
+use lib.Seq.{sets, drop-cons, length-take-le}
 use Rattle.coding.proofs.Sets.{sets-mid}
 use Rattle.table.specs.Table.{zeros}
 use Rattle.table.proofs.Tests.{cases}
 use Rattle.table.proofs.Zeros.{length-zeros, zeros-add}
 use Rattle.ldc.specs.Lists.{all, isEmpty}
-use Rattle.ldc.specs.Store.{Link, Card, free, live, linksOf, isFree, isLive, isFrozen}
+use Rattle.summary.specs.Summary.{summaryWords}
+use Rattle.ldc.specs.Store.{Link, Card, free, live, frozen, linksOf, isFree, isLive, isFrozen}
 use Rattle.ldc.specs.Lent.{rowGood}
-use Rattle.ldc.proofs.Basics.ListLaws.{getD-map}
+use Rattle.ldc.proofs.Basics.ListLaws.{spell}
 use Rattle.ldc.proofs.Lent.Changes.{map-set}
 use Rattle.ldc.proofs.Lent.Parts.{length-linksAt, links-of}
-pub use Rattle.ldc.proofs.Lent.Parts.{card-back, row-back, length-rowOf}
-use Rattle.ldc.specs.Layout.{linkLimit, rowHead, linkSize, rowSize, stateOf, linkCount, linkStart, linksAt, cardOf, linkWords, rowOf, linkFrom, linkAt}
-use Rattle.book.specs.Row.{linksIn, bareCard, linkAdded}
+pub use Rattle.ldc.proofs.Lent.Parts.{card-back, row-back, length-rowOf, getD-rows}
+use Rattle.ldc.specs.Layout.{linkLimit, rowHead, linkSize, rowSize, stateOf, linkCount, linkStart, linksAt, cardOf, linkWords, linkFrom, linkAt, summaryStart, rowWith}
+use Rattle.book.specs.Row.{linksIn, frozenRow, linkAdded}
 use Rattle.book.proofs.Every.{all-fails, all-passes}
 
 -- ---- the state
@@ -121,13 +122,39 @@ some-links (l ∷ ls) h = refl
 
 -- ---- the rows that are written
 
--- A state and zeros.
-pub bare-row : (state : ℕ) → state ≤ 2 → state ∷ zeros (rowSize - 1) ≡ rowOf (bareCard state)
-unfolding rowOf zeros
-bare-row zero h = refl
-bare-row (suc zero) h = refl
-bare-row (suc (suc zero)) h = refl
-bare-row (suc (suc (suc n))) h = absurd (omega arith)
+-- Zeros; and a state and zeros.
+pub free-row : zeros rowSize ≡ rowWith free (zeros summaryWords)
+unfolding rowWith zeros
+free-row = refl
+
+pub live-row : 1 ∷ zeros (rowSize - 1) ≡ rowWith (live []) (zeros summaryWords)
+unfolding rowWith zeros
+live-row = refl
+
+pub freeze-row : (words : List ℕ) → frozenRow (rowWith (live []) words) ≡ rowWith frozen words
+unfolding rowWith
+freeze-row words = refl
+
+-- Four stores write the summary.
+pub summary-stored : (row words : List ℕ) → length words ≡ summaryWords
+    → set (set (set (set row 34 (getD words 0 0)) 35 (getD words 1 0)) 36 (getD words 2 0)) 37 (getD words 3 0) ≡ sets row summaryStart words
+summary-stored row words n = ap (λ (ws : List ℕ). sets row summaryStart ws) (sym (spell 4 0 words n))
+
+-- Behind a live row without links.
+pub live-summary : (old words : List ℕ) → length old ≡ summaryWords → length words ≡ summaryWords
+    → sets (rowWith (live []) old) summaryStart words ≡ rowWith (live []) words
+unfolding rowWith zeros
+live-summary old words h n = rw (spell 4 0 old h, spell 4 0 words n)
+
+-- In a whole row it stands behind all else.
+pub summary-sets : (row words : List ℕ) → length row ≡ rowSize → length words ≡ summaryWords → sets row summaryStart words ≡ take summaryStart row ++ words
+summary-sets row words h n =
+    let all : sets (take summaryStart row ++ (drop summaryStart row ++ [])) summaryStart words ≡ take summaryStart row ++ (words ++ []) =
+    sets-mid (take summaryStart row) (drop summaryStart row) [] words summaryStart (length-take-le summaryStart row (omega arith)) (rw length-drop (omega arith)) in
+    let one : drop summaryStart row ++ [] ≡ drop summaryStart row = append-nil (drop summaryStart row) in
+    let two : words ++ [] ≡ words = append-nil words in
+    let three = take-append-drop summaryStart row in
+    rw (one, two, three) at all
 
 words-append : (ks ls : List Link) → linkWords (ks ++ ls) ≡ linkWords ks ++ linkWords ls
 words-append [] ls = refl
@@ -147,9 +174,10 @@ link-stored row l =
     rw (add-one at, add-two at, three)
 
 -- A link put behind the last of a live row is behind the last of its card.
-pub link-added : (ls : List Link) (l : Link) → length ls < linkLimit → linkAdded l (rowOf (live ls)) ≡ rowOf (live (ls ++ l ∷ []))
-unfolding linkAdded linkCount rowOf
-link-added ls l h =
+pub link-added : (ls : List Link) (l : Link) (summary : List ℕ) → length ls < linkLimit
+    → linkAdded l (rowWith (live ls) summary) ≡ rowWith (live (ls ++ l ∷ [])) summary
+unfolding linkAdded linkCount rowWith
+link-added ls l summary h =
     let n : ℕ = length ls in
     let left : ℕ = linkSize * linkLimit - linkSize * (n + 1) in
     let front : List ℕ = 1 ∷ n ∷ linkWords ls in
@@ -157,16 +185,13 @@ link-added ls l h =
     let at : length front ≡ linkStart n = omega (arith, length-words ls) in
     let rest : zeros (linkSize * linkLimit - linkSize * n) ≡ zeros linkSize ++ zeros left =
     ap zeros (omega arith) ∙ zeros-add linkSize left in
-    let mid : sets (front ++ (zeros linkSize ++ zeros left)) (linkStart n) words ≡ front ++ (words ++ zeros left) =
-    sets-mid front (zeros linkSize) (zeros left) words (linkStart n) at (length-zeros linkSize) in
+    let mid : sets (front ++ (zeros linkSize ++ (zeros left ++ summary))) (linkStart n) words ≡ front ++ (words ++ (zeros left ++ summary)) =
+    sets-mid front (zeros linkSize) (zeros left ++ summary) words (linkStart n) at (length-zeros linkSize) in
     let more : length (ls ++ l ∷ []) ≡ n + 1 = length-append ls (l ∷ []) in
-    rw (rest, mid, more, words-append ls (l ∷ []), append-assoc)
+    rw (rest, append-assoc, mid, more, words-append ls (l ∷ []), append-assoc)
 
 -- ---- rows of all cards
 
-pub cards-set : (rows : List (List ℕ)) (p : ℕ) (c : Card) → length (linksOf c) ≤ linkLimit
-    → map cardOf (set rows p (rowOf c)) ≡ set (map cardOf rows) p c
-cards-set rows p c few = map-set cardOf rows p (rowOf c) ∙ rw (card-back c few)
-
-pub row-at : (cs : List Card) (p : ℕ) → p < length cs → getD (map rowOf cs) p [] ≡ rowOf (getD cs p free)
-row-at cs p h = getD-map rowOf cs p free [] h
+pub cards-set : (rows : List (List ℕ)) (p : ℕ) (c : Card) (summary : List ℕ) → length (linksOf c) ≤ linkLimit
+    → map cardOf (set rows p (rowWith c summary)) ≡ set (map cardOf rows) p c
+cards-set rows p c summary few = map-set cardOf rows p (rowWith c summary) ∙ rw (card-back c summary few)

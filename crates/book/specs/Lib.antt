@@ -1,5 +1,5 @@
 -- What a reader of `book` must believe besides the definition of the store: the words that each function reads and writes.
---   Row     one row: its links, a card without links, and a row with one link more
+--   Row     one row: its links, the row frozen, and with one link more
 --   Rows    the rows of all cards, and the area beside them
 --   Place   the first free place, and how many are free, over rows
 --   Head    the ten words of the head as a value

@@ -1,12 +1,10 @@
--- One row: its links, a card without links, and a row with one link more.
+-- One row: its links, the row frozen, and with one link more.
 use Prim.Native.Nat.{ℕ, _+_}
 use mathlib.Core.List.{List, [], _∷_}
-use mathlib.Core.Bool.{cond}
-use lib.Dec.{eqb}
 use lib.ListN.{set}
 use lib.Seq.{sets}
-use Rattle.ldc.specs.Store.{Link, Card, free, live, frozen, linksOf}
-use Rattle.ldc.specs.Layout.{liveState, frozenState, linkCount, linkStart, linkWords, cardOf}
+use Rattle.ldc.specs.Store.{Link, linksOf}
+use Rattle.ldc.specs.Layout.{frozenState, linkCount, linkStart, linkWords, cardOf}
 use Rattle.book.specs.declared.row.Link as words
 
 -- The link that a value of the code is.
@@ -17,9 +15,9 @@ theLink l = record { place = l .place; low = l .low .value; high = l .high .valu
 unfoldable pub linksIn : List ℕ → List Link
 linksIn row = linksOf (cardOf row)
 
--- The card of a state and no links.
-abbrev pub bareCard : (state : ℕ) → Card
-bareCard state = cond (eqb state liveState) (live []) (cond (eqb state frozenState) frozen free)
+-- A row whose state says frozen; its other words stay.
+abbrev pub frozenRow : List ℕ → List ℕ
+frozenRow row = set row 0 frozenState
 
 -- A row with one link more, behind its last.
 unfoldable pub linkAdded : Link → List ℕ → List ℕ

@@ -1,14 +1,23 @@
-// A place's card as a row of words: state, link count, then place, low, high and number of each link. Rows are read and written here
-// by their words, and everywhere else by these functions.
+// A place's card as a row of words: state, link count, then place, low, high and number of each link, and the summary. Rows are read and
+// written here by their words, and everywhere else by these functions.
 ghost use mathlib.Core.Path.{_≡_};
 ghost use mathlib.Core.List.{[]};
+ghost use mathlib.Core.Bool.{_&&_};
 ghost use Prim.Native.Nat.{_≤_, _<_};
 ghost use lib.ListN.{length, getD, set};
-ghost use Rattle.ldc.specs.Store.{isFree, isLive, isFrozen};
-ghost use Rattle.ldc.specs.Layout.{linkLimit, frozenState, stateOf, linkCount, cardOf, rowOf, linkStart, linkAt};
-ghost use Rattle.book.specs.Row.{theLink, linksIn, linkAdded, bareCard};
+ghost use lib.Seq.{sets};
+ghost use Rattle.table.specs.Table.{zeros};
+ghost use Rattle.summary.specs.Bits.{hasBit};
+ghost use Rattle.summary.specs.Summary.{summaryWords, bytesIn, bitsSet, sameWords};
+ghost use Rattle.ldc.specs.Store.{free, live, isFree, isLive, isFrozen};
+ghost use Rattle.ldc.specs.Layout.{linkLimit, stateOf, linkCount, cardOf, linkStart, linkAt, summaryStart, summaryIn, rowWith};
+ghost use Rattle.book.specs.Row.{theLink, linksIn, linkAdded, frozenRow};
 use super::limits::LINK_LIMIT;
 use coding::key::Key;
+use summary::bits::KeyBits;
+use summary::filter;
+use summary::filter::SUMMARY_WORDS;
+use summary::filter::Words;
 
 // A slice link: a frozen place, a key range, both ends included, and the number of the place's entries in that range.
 pub struct Link {
@@ -23,7 +32,10 @@ pub const ROW_HEAD: usize = 2;
 
 pub const LINK_WORDS: usize = 4;
 
-pub const ROW_WORDS: usize = ROW_HEAD + LINK_WORDS * LINK_LIMIT;
+// Where the summary's words stand, behind the room for links.
+pub const SUMMARY: usize = ROW_HEAD + LINK_WORDS * LINK_LIMIT;
+
+pub const ROW_WORDS: usize = SUMMARY + SUMMARY_WORDS;
 
 pub type Row = [u64; ROW_WORDS];
 
@@ -120,13 +132,78 @@ pub fn link_at(row: &Row, i: usize) -> Link
     }
 }
 
-// Makes the place free, live without links, or frozen, by the number of the state.
-pub fn set_state(cards: &mut [Row], p: usize, state: u64)
-    requires { ⌜ (p < length (now cards)) × (state ≤ frozenState) ⌝ }
-    ensures { λ _. ⌜ now (cards .exit) ≡ set (now (cards .entry)) p (rowOf (bareCard state)) ⌝ }
+// The words of a row's summary.
+pub fn summary_of(row: &Row) -> &[u64]
+    ensures { λ r. ⌜ (now r ≡ summaryIn (now (row .entry))) × (length (now r) ≡ summaryWords) ⌝ }
+{
+    let words = &row[..];
+    &words[SUMMARY..]
+}
+
+// May the place's table hold a key with these three bits?
+pub fn may_hold(row: &Row, bits: KeyBits) -> bool
+    requires { ⌜ (bits .exclusive < 256) × ((bits .sum < 256) × (bits .weighed < 256)) ⌝ }
+    ensures { λ r. ⌜
+        r ≡ hasBit (bytesIn (summaryIn (now (row .entry)))) (bits .exclusive)
+        && (hasBit (bytesIn (summaryIn (now (row .entry)))) (bits .sum)
+        && hasBit (bytesIn (summaryIn (now (row .entry)))) (bits .weighed))
+        ⌝ }
+{
+    filter::may_hold(summary_of(row), bits)
+}
+
+// How many bits of its summary are set.
+pub fn bits_set(row: &Row) -> usize
+    ensures { λ r. ⌜ r ≡ bitsSet (bytesIn (summaryIn (now (row .entry)))) ⌝ }
+{
+    filter::count(summary_of(row))
+}
+
+// Is this its summary?
+pub fn has_summary(row: &Row, right: Words) -> bool
+    ensures { λ r. ⌜ r ≡ sameWords (summaryIn (now (row .entry))) right ⌝ }
+{
+    filter::same(summary_of(row), right)
+}
+
+// Writes a summary into a row.
+pub fn set_summary(cards: &mut [Row], p: usize, words: Words)
+    requires { ⌜ p < length (now cards) ⌝ }
+    ensures { λ _. ⌜ now (cards .exit) ≡ set (now (cards .entry)) p (sets (getD (now (cards .entry)) p []) summaryStart words) ⌝ }
+{
+    let mut row = cards[p];
+    row[SUMMARY] = words[0];
+    row[SUMMARY + 1] = words[1];
+    row[SUMMARY + 2] = words[2];
+    row[SUMMARY + 3] = words[3];
+    cards[p] = row;
+}
+
+// Makes the place free: no links, no summary.
+pub fn free(cards: &mut [Row], p: usize)
+    requires { ⌜ p < length (now cards) ⌝ }
+    ensures { λ _. ⌜ now (cards .exit) ≡ set (now (cards .entry)) p (rowWith free (zeros summaryWords)) ⌝ }
+{
+    cards[p] = [0u64; ROW_WORDS];
+}
+
+// Makes it live, without links; its table's summary is to be written.
+pub fn make_live(cards: &mut [Row], p: usize)
+    requires { ⌜ p < length (now cards) ⌝ }
+    ensures { λ _. ⌜ now (cards .exit) ≡ set (now (cards .entry)) p (rowWith (live []) (zeros summaryWords)) ⌝ }
 {
     let mut row = [0u64; ROW_WORDS];
-    row[STATE] = state;
+    row[STATE] = LIVE;
+    cards[p] = row;
+}
+
+// Makes a place without links frozen; its summary stays.
+pub fn freeze(cards: &mut [Row], p: usize)
+    requires { ⌜ p < length (now cards) ⌝ }
+    ensures { λ _. ⌜ now (cards .exit) ≡ set (now (cards .entry)) p (frozenRow (getD (now (cards .entry)) p [])) ⌝ }
+{
+    let mut row = cards[p];
+    row[STATE] = FROZEN;
     cards[p] = row;
 }
 

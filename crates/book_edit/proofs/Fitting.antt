@@ -16,16 +16,16 @@ use Rattle.ldc.specs.Store.{Card, free, live, Store, size, card, links, linksOf
 use Rattle.ldc.specs.Lent.{lentOf}
 use Rattle.ldc.specs.Place.{nextPlace, placeTaken, written, freePlaces}
 use Rattle.ldc.proofs.Basics.Cases.{cases}
-use Rattle.ldc.proofs.Basics.ListLaws.{Each, getD-mem, getD-map, map-back, length-flat, parts, getD-parts, parts-flat, spell}
-use Rattle.ldc.proofs.Lent.Parts.{card-back, length-rowOf, padded}
-use Rattle.ldc.proofs.Lent.Changes.{cards-withCard, area-withPlace, lists-withPlace, lists-withLevel, head-withLevel, each-padded}
+use Rattle.ldc.proofs.Basics.ListLaws.{Each, getD-mem, getD-map, length-flat, parts, getD-parts, parts-flat, spell}
+use Rattle.ldc.proofs.Lent.Parts.{cards-rows, getD-rows, length-rows, length-rowOf, padded}
+use Rattle.ldc.proofs.Lent.Changes.{cards-withPlace, area-withPlace, lists-withPlace, lists-withLevel, head-withLevel, each-padded}
 use Rattle.ldc.proofs.Lent.Round.{level-fits}
 use Rattle.ldc.proofs.Stores.Facts.{cursor-sound}
 use Rattle.ldc.proofs.Stores.Places.{taken-below}
 use Rattle.ldc.proofs.Stores.Sound.{Sound, Whole}
 use Rattle.ldc.proofs.Stores.SoundRules.{threshold-eight}
 use Rattle.ldc.proofs.Stores.Written.{size-written, placed-written, card-written-other, card-written-same, bytes-written-other, bytes-written-same, cursor-written}
-use Rattle.ldc.specs.Layout.{cardOf, rowOf, itemsIn, partIn, linkLimit, lengthIn, lengthWord, levelCount}
+use Rattle.ldc.specs.Layout.{cardOf, tableSummary, rowOf, itemsIn, partIn, linkLimit, lengthIn, lengthWord, levelCount}
 use Rattle.book.specs.Place.{freeAt, freeRows}
 use Rattle.book.specs.declared.index.Index.the-variants.{At}
 use Rattle.book.proofs.Free.{taken-shown, count-shown}
@@ -59,20 +59,20 @@ module _ (s : Store) (f : Fits s) where
 
   pub cards-shown : s .cards ≡ map cardOf (lentOf s .cards)
   unfolding lentOf
-  cards-shown = sym (map-back rowOf cardOf (s .cards) (λ c m. card-back c (few-cards s (f .few) c m)))
+  cards-shown = sym (cards-rows (s .cards) (s .places) (few-cards s (f .few)))
 
-  pub row-shown : (p : ℕ) → p < size s → getD (lentOf s .cards) p [] ≡ rowOf (card s p)
-  unfolding lentOf size card
-  row-shown p h = getD-map rowOf (s .cards) p free [] h
+  pub row-shown : (p : ℕ) → p < size s → getD (lentOf s .cards) p [] ≡ rowOf (card s p) (bytesAt s p)
+  unfolding lentOf size card bytesAt
+  row-shown p h = getD-rows (s .cards) (s .places) p h
 
   pub length-cards : length (lentOf s .cards) ≡ size s
   unfolding lentOf size
-  length-cards = length-map (s .cards) rowOf
+  length-cards = length-rows (s .cards) (s .places)
 
   -- Rows of as many words as their type has.
   pub wide-shown : Wide (lentOf s .cards)
   unfolding links
-  wide-shown p h = rw (row-shown p (omega (arith, length-cards))) (length-rowOf (card s p) (f .few p))
+  wide-shown p h = rw (row-shown p (omega (arith, length-cards))) (length-rowOf (card s p) (bytesAt s p) (f .few p))
 
   pub free-shown : freeRows (lentOf s .cards) ≡ freePlaces s
   free-shown = count-shown s (lentOf s .cards) cards-shown
@@ -193,9 +193,11 @@ module _ (s : Store) (f : Fits s) (es : List Entry) (enough : 1 ≤ freePlaces s
       area-withPlace (withCard (placeTaken s) (live []) (withCursor (nextPlace (size s) (placeTaken s)) s)) (placeTaken s) (tableBytes es)
       (each-place s f) (omega (arith, taken-below s (f .turns) enough, f .placed)) long
 
-  cards-written : lentOf (written es s) .cards ≡ set (lentOf s .cards) (placeTaken s) (rowOf (live []))
+  cards-written : lentOf (written es s) .cards ≡ set (lentOf s .cards) (placeTaken s) (rowOf (live []) (tableBytes es))
   unfolding written lentOf
-  cards-written = cards-withCard (withCursor (nextPlace (size s) (placeTaken s)) s) (placeTaken s) (live [])
+  cards-written =
+      cards-withPlace (withCursor (nextPlace (size s) (placeTaken s)) s) (placeTaken s) (live []) (tableBytes es)
+      (omega (arith, taken-below s (f .turns) enough, f .placed))
 
   head-written : lentOf (written es s) .head ≡ set (lentOf s .head) 1 (nextPlace (size s) (placeTaken s))
   unfolding written lentOf
@@ -203,7 +205,7 @@ module _ (s : Store) (f : Fits s) (es : List Entry) (enough : 1 ≤ freePlaces s
 
   -- The place that the code takes and writes.
   pub shows-written : (area area′ : List ℕ) (cards cards′ : List (List ℕ)) (head head′ : List ℕ) (p : ℕ)
-      → Shows area cards head s → Takes cards head cards′ head′ p → area′ ≡ sets area (p * placeSize) (tableBytes es)
+      → Shows area cards head s → Takes cards head cards′ head′ p (tableSummary (tableBytes es)) → area′ ≡ sets area (p * placeSize) (tableBytes es)
       → (p ≡ placeTaken s) × Shows area′ cards′ head′ (written es s)
   shows-written area area′ cards cards′ head head′ p sh t w =
       let rows : List (List ℕ) = lentOf s .cards in
@@ -213,7 +215,7 @@ module _ (s : Store) (f : Fits s) (es : List Entry) (enough : 1 ≤ freePlaces s
         sym here,
         record {
           area = w ∙ rw (← here, sh .area) (sym area-written);
-          cards = t .row ∙ rw (← here, sh .cards) (sym cards-written);
+          cards = t .row ∙ rw (← here, sh .cards) (unfold rowOf in sym cards-written);
           head = t .next ∙ rw (← here, sh .cards, sh .head, length-cards s f) (sym head-written);
         },
       )

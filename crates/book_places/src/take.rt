@@ -5,9 +5,11 @@ ghost use mathlib.Core.Path.{_≡_};
 ghost use mathlib.Core.List.{[]};
 ghost use Prim.Native.Nat.{_≤_, _<_};
 ghost use lib.ListN.{length, set};
+ghost use Rattle.table.specs.Table.{zeros};
+ghost use Rattle.summary.specs.Summary.{summaryWords};
 ghost use Rattle.ldc.specs.Store.{live};
 ghost use Rattle.ldc.specs.Place.{nextPlace};
-ghost use Rattle.ldc.specs.Layout.{rowOf};
+ghost use Rattle.ldc.specs.Layout.{rowWith};
 ghost use Rattle.book.specs.Place.{freeAt, freeRows};
 ghost use Rattle.book.specs.declared.index.Index.the-variants.{At};
 ghost use Rattle.book_places.specs.Taking.{TakesAt};
@@ -29,19 +31,19 @@ pub struct Advanced {
     pub position: Position,
 }
 
-// Makes the first free place from the cursor on, going round, live without links.
+// Makes the first free place from the cursor on, going round, live without links and without a summary yet.
 pub fn take_from(cards: &mut [Row], cursor: usize) -> Step
     requires { ⌜ (cursor < length (now cards)) × (1 ≤ freeRows (now cards)) ⌝ }
     ensures { λ r. ⌜
         (freeAt (length (now (cards .entry))) (now (cards .entry)) cursor ≡ At (r .place))
-        × ((now (cards .exit) ≡ set (now (cards .entry)) (r .place) (rowOf (live [])))
+        × ((now (cards .exit) ≡ set (now (cards .entry)) (r .place) (rowWith (live []) (zeros summaryWords)))
         × (r .cursor ≡ nextPlace (length (now (cards .entry))) (r .place)))
         ⌝ }
 {
     let Index::At(p) = free::first_free(cards, cursor) else {
         return Step { place: 0, cursor };
     };
-    row::set_state(cards, p, row::LIVE);
+    row::make_live(cards, p);
     Step {
         place: p,
         cursor: free::next(cards.len(), p),

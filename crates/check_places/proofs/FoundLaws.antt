@@ -2,12 +2,12 @@
 -- whose greatest keys are noted.
 use Prim.Native.Nat.{ℕ, zero, suc, _+_, _*_, _≤_, _<_, min}
 use mathlib.Core.Path.{_≡_, refl, sym, _∙_}
-use mathlib.Core.Bool.{true, false, cond, _||_, true≢false}
+use mathlib.Core.Bool.{true, false, cond, not, _&&_, _||_, and-true, and-false, true≢false}
 use mathlib.Core.List.{List, [], List·Memᴰ}
 use native.Mathlib.Omega.{arith}
 use borrow.Author.Tests.{leb-true, ltb-true, eqb-true, eq-eqb}
 use lib.Dec.{leb, ltb, eqb}
-use lib.ListN.{length, getD, drop-of-length-le}
+use lib.ListN.{length, getD, take, drop, drop-of-length-le}
 use Rattle.table.specs.Table.{entries, zeros, isTable, allZero, placeOf}
 use Rattle.table.specs.Search.{greatestKey}
 use Rattle.table.proofs.Tests.{and-parts, cases}
@@ -17,7 +17,8 @@ use Rattle.ldc.specs.Store.{Card, free, live, frozen, isFree, isLive}
 use Rattle.ldc.specs.Lent.{rowGood}
 use Rattle.ldc.proofs.Basics.ListLaws.{all-at, all-of, below-at, howMany-mem}
 use Rattle.ldc.proofs.Basics.Counts.{howMany-append}
-use Rattle.ldc.specs.Layout.{cardOf, linkCount, rowRest, itemsIn, linkLimit, rowSize, linkStart, lengthIn, levelCount}
+use Rattle.ldc.proofs.Lent.Parts.{zero-append}
+use Rattle.ldc.specs.Layout.{cardOf, linkCount, summaryStart, summaryIn, rowRest, itemsIn, linkLimit, linkStart, lengthIn, levelCount}
 use Rattle.book.specs.Rows.{tabled, Sized}
 use Rattle.check_walk.specs.Links.{Walkable}
 use Rattle.check_walk.specs.Lists.{namesPlaces}
@@ -102,7 +103,7 @@ module _ (area : List ℕ) (cards : List (List ℕ)) (lists head : List ℕ) (z 
   list-tabled n h = all-of (λ p. isTable (placeOf area p)) (itemsIn (length cards) lists head n)
       (λ p m. let l = listed-live n p h m in
       let good : (isFree (cardOf (getD cards p [])) || isTable (placeOf area p)) ≡ true =
-      below-at (length cards) (placeTabled area cards) kept-c p (l .0) in
+      and-parts (isFree (cardOf (getD cards p [])) || isTable (placeOf area p)) _ (below-at (length cards) (placeTabled area cards) kept-c p (l .0)) .0 in
       rw (live-not-free _ (l .1)) at good)
 
   -- And its greatest key is noted.
@@ -126,7 +127,27 @@ module _ (area : List ℕ) (cards : List (List ℕ)) (lists head : List ℕ) (z 
     };
   }
 
--- A row that says more links than it has room for has no rest.
-pub rest-none : (row : List ℕ) → length row ≡ rowSize → linkLimit < linkCount row → true ≡ allZero (rowRest row)
+-- Behind more links than there is room for nothing is left.
+pub rest-none : (words : List ℕ) (n : ℕ) → length words ≡ summaryStart → linkLimit < n → true ≡ allZero (drop (linkStart n) words)
 unfolding allZero
-rest-none row h few = rw (drop-of-length-le row {i = linkStart (linkCount row)} (omega arith))
+rest-none words n h few = rw (drop-of-length-le words {i = linkStart n} (omega arith))
+
+-- The words not in use: of a free place the summary's too.
+module _ (row : List ℕ) where
+  pub rest-free : isFree (cardOf row) ≡ true → allZero (summaryIn row) ≡ false → false ≡ allZero (rowRest row)
+  unfolding rowRest
+  rest-free f z =
+      let front : List ℕ = drop (linkStart (linkCount row)) (take summaryStart row) in
+      rw f (sym (zero-append front (summaryIn row) ∙ rw z (and-false (allZero front))))
+
+  pub rest-links : (isFree (cardOf row) && not (allZero (summaryIn row))) ≡ false
+      → allZero (drop (linkStart (linkCount row)) (take summaryStart row)) ≡ allZero (rowRest row)
+  unfolding rowRest allZero
+  rest-links h =
+      let front : List ℕ = drop (linkStart (linkCount row)) (take summaryStart row) in
+      sym (zero-append front (cond (isFree (cardOf row)) (summaryIn row) [])
+      ∙ cases (isFree (cardOf row))
+      (λ f. cases (allZero (summaryIn row))
+      (λ z. rw (f, z) (and-true (allZero front)))
+      (λ z. absurd (true≢false (rw (f, z) at h))))
+      (λ f. rw f (and-true (allZero front))))

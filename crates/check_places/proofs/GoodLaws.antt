@@ -9,7 +9,7 @@ use lib.ListN.{length, getD}
 use Rattle.table.specs.Entry.{Entry}
 use Rattle.table.specs.Table.{entries, isTable, placeOf}
 use Rattle.table.specs.Search.{countWithin}
-use Rattle.table.proofs.Tests.{cases}
+use Rattle.table.proofs.Tests.{and-parts, cases}
 use Rattle.ldc.specs.Lists.{isEmpty}
 use Rattle.ldc.specs.Store.{Link, Card, free, live, frozen, isFree, isFrozen, slice, within}
 use Rattle.ldc.specs.Rules.{linkGood}
@@ -39,7 +39,8 @@ module _ (area : List ℕ) (cards : List (List ℕ)) where
       → isTable (placeOf area p) ≡ true
   unfolding walkC placeTabled
   frozen-table k p h f =
-      let g : (isFree (cardOf (getD cards p [])) || isTable (placeOf area p)) ≡ true = below-at (length cards) (placeTabled area cards) k p h in
+      let g : (isFree (cardOf (getD cards p [])) || isTable (placeOf area p)) ≡ true =
+      and-parts (isFree (cardOf (getD cards p [])) || isTable (placeOf area p)) _ (below-at (length cards) (placeTabled area cards) k p h) .0 in
       rw (frozen-not-free _ f) at g
 
   module _ (l : Link) where

@@ -10,12 +10,12 @@ use borrow.Author.Tests.{ne-eqb, ltb-true, ltb-false}
 use lib.Dec.{leb, ltb, eqb}
 use lib.ListN.{length, getD, drop}
 use Rattle.table.specs.Limits.{placeSize}
-use Rattle.table.specs.Table.{isTable, allZero, zeros}
+use Rattle.table.specs.Table.{isTable, allZero, zeros, placeOf}
 use Rattle.table.proofs.Tests.{and-parts, cases}
 use Rattle.ldc.specs.Lists.{all, howMany, flat, isEmpty, allFrom}
 use Rattle.ldc.specs.Store.{Link, size, card, links, linksOf, isFree, isLive, isFrozen, bytesAt, level}
 use Rattle.ldc.specs.Rules.{thresholdGood, ruleA, ruleB, ruleC, ruleE, ruleF, ruleG, timesListed, linkGood, hungOn, allApart, named, spansRise}
-use Rattle.ldc.specs.Lent.{Lent, placesIn, sizesGood, listLength, listPart, levelOf, storeOf, rowGood, numbersGood, countsGood, unusedZero, keptB}
+use Rattle.ldc.specs.Lent.{Lent, placesIn, sizesGood, listLength, listPart, levelOf, storeOf, rowGood, numbersGood, summaryGood, summariesGood, countsGood, unusedZero, keptB, keptC}
 use Rattle.ldc.proofs.Basics.ListLaws.{all-at, mem-getD}
 use Rattle.ldc.proofs.Lent.Shows.{sizes}
 use Rattle.ldc.proofs.Stores.SoundRules.{good-frozen}
@@ -167,12 +167,30 @@ module _ (m : Lent) (good : sizesGood m ≡ true) where
 
   -- ---- C
 
-  pub rule-C : ruleC (storeOf m) ≡ walkC (m .area) (m .cards)
-  unfolding ruleC walkC placeTabled
-  rule-C =
+  abbrev tables : ℕ → Bool
+  tables p = isFree (cardOf (getD (m .cards) p [])) || isTable (placeOf (m .area) p)
+
+  abbrev bits : ℕ → Bool
+  bits p = summaryGood (getD (m .cards) p []) (placeOf (m .area) p)
+
+  tables-kept : ruleC (storeOf m) ≡ allFrom (length (m .cards)) 0 tables
+  unfolding ruleC
+  tables-kept =
       rw (size-seen m)
-      (below-same (λ p. isFree (card (storeOf m) p) || isTable (bytesAt (storeOf m) p)) (placeTabled (m .area) (m .cards)) (length (m .cards))
+      (below-same (λ p. isFree (card (storeOf m) p) || isTable (bytesAt (storeOf m) p)) tables (length (m .cards))
       (λ p h. rw (card-seen m p, card-shown (m .area) (m .cards) p, bytes-seen m p, bytes-shown (m .area) (m .cards) sized p h)))
+
+  bits-kept : summariesGood m ≡ allFrom (length (m .cards)) 0 bits
+  unfolding summariesGood
+  bits-kept =
+      below-same (λ p. summaryGood (getD (m .cards) p []) (bytesAt (storeOf m) p)) bits (length (m .cards))
+      (λ p h. rw (bytes-seen m p, bytes-shown (m .area) (m .cards) sized p h))
+
+  pub rule-C : keptC m ≡ walkC (m .area) (m .cards)
+  unfolding keptC walkC placeTabled
+  rule-C =
+      rw (tables-kept, bits-kept)
+      (sym (from-split (placeTabled (m .area) (m .cards)) tables bits (length (m .cards)) 0 (λ p. refl)))
 
   -- ---- F
 
@@ -188,7 +206,7 @@ module _ (m : Lent) (good : sizesGood m ≡ true) where
 
   -- ---- where B and C are kept
 
-  module _ (b : keptB m ≡ true) (c : ruleC (storeOf m) ≡ true) where
+  module _ (b : keptB m ≡ true) (c : keptC m ≡ true) where
     pub found : (ends : List ℕ) → Noted (m .area) (m .cards) ends → Walkable (m .area) (m .cards) (m .lists) (m .head) ends
     found ends noted = walkable (m .area) (m .cards) (m .lists) (m .head) sized (sym rule-B ∙ b) (sym rule-C ∙ c) ends noted long-lists
 

@@ -10,14 +10,16 @@ use Rattle.table.specs.Search.{greatestKey}
 use Rattle.ldc.specs.Lists.{all, flat, isEmpty, allFrom}
 use Rattle.ldc.specs.Store.{isFree, isFrozen}
 use Rattle.ldc.specs.Rules.{linkGood}
+use Rattle.ldc.specs.Lent.{summaryGood}
 use Rattle.ldc.specs.Layout.{linkCount, cardOf, itemsIn, thresholdIn}
 use Rattle.book.specs.Rows.{linksOn, shownBy}
 use Rattle.book.specs.Row.{linksIn}
 use Rattle.check_walk.specs.Links.{levelsApart, linksMarked}
 
--- Rule C: is a place free, or does it hold a table?
+-- Rule C: is a place free, or does it hold a table, and are the bits on its card right?
 unfoldable pub placeTabled : (area : List ℕ) → (cards : List (List ℕ)) → (p : ℕ) → Bool
-placeTabled area cards p = isFree (cardOf (getD cards p [])) || isTable (placeOf area p)
+placeTabled area cards p =
+    (isFree (cardOf (getD cards p [])) || isTable (placeOf area p)) && summaryGood (getD cards p []) (placeOf area p)
 
 unfoldable pub walkC : (area : List ℕ) → (cards : List (List ℕ)) → Bool
 walkC area cards = allFrom (length cards) 0 (placeTabled area cards)

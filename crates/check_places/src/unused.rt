@@ -5,7 +5,7 @@ ghost use Prim.Native.Nat.{ℕ, _*_, _≤_, _<_};
 ghost use lib.ListN.{length, drop};
 ghost use Rattle.table.specs.Table.{allZero};
 ghost use Rattle.ldc.specs.Lists.{allFrom};
-ghost use Rattle.ldc.specs.Layout.{markGood, marksGood, rowRest, levelCount, lengthIn};
+ghost use Rattle.ldc.specs.Layout.{linkStart, summaryStart, markGood, marksGood, rowRest, levelCount, lengthIn};
 ghost use Rattle.check_places.specs.Parts.{listRestZero};
 use book::head::FLAG1;
 use book::head::FLAG2;
@@ -45,16 +45,26 @@ fn words_zero(words: &[u64], from: usize) -> bool
     zero
 }
 
-// Are the words of a row behind its links zero?
-pub fn row_rest_zero(row: &Row) -> bool
-    ensures { λ r. ⌜ r ≡ allZero (rowRest (now (row .entry))) ⌝ }
+// Are the words behind n links zero, up to the summary's?
+fn links_rest_zero(words: &[u64], n: u64) -> bool
+    requires { ⌜ length (now words) ≡ summaryStart ⌝ }
+    ensures { λ r. ⌜ r ≡ allZero (drop (linkStart n) (now (words .entry))) ⌝ }
 {
-    let words = &row[..];
-    let n = row::link_count(row);
     if (LINK_LIMIT as u64) < n {
         return true;
     }
     words_zero(words, row::link_start(n as usize))
+}
+
+// Are the words of a row zero that are not in use: those behind its links, and the summary's of a free place?
+pub fn row_rest_zero(row: &Row) -> bool
+    ensures { λ r. ⌜ r ≡ allZero (rowRest (now (row .entry))) ⌝ }
+{
+    let words = &row[..];
+    if row::is_free(row) & !words_zero(words, row::SUMMARY) {
+        return false;
+    }
+    links_rest_zero(&words[..row::SUMMARY], row::link_count(row))
 }
 
 // Are all of these items zero?

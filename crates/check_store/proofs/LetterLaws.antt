@@ -3,8 +3,8 @@ use Prim.Native.Nat.{ℕ}
 use mathlib.Core.Path.{_≡_, refl, sym, _∙_}
 use mathlib.Core.Bool.{true, false, _&&_}
 use Rattle.table.specs.Table.{isMemory}
-use Rattle.ldc.specs.Rules.{ruleA, ruleC, ruleE, ruleF, ruleG}
-use Rattle.ldc.specs.Lent.{Lent, sizesGood, storeOf, countsGood, unusedZero, keptB, presupposed, keptE, keptF, keptG, firstBroken, broken, letterA, letterB, letterC, letterD, letterE, letterF, letterG}
+use Rattle.ldc.specs.Rules.{ruleA, ruleE, ruleF, ruleG}
+use Rattle.ldc.specs.Lent.{Lent, sizesGood, storeOf, countsGood, unusedZero, keptB, keptC, presupposed, keptE, keptF, keptG, firstBroken, broken, letterA, letterB, letterC, letterD, letterE, letterF, letterG}
 use Rattle.ldc.specs.Run.{check}
 use Rattle.ldc.proofs.Lent.Letters.{first-none, first-some, letter-5, letter-none}
 use Rattle.table.proofs.Tests.{cases}
@@ -25,11 +25,11 @@ module _ (m : Lent) where
     letter-B b = rw (a, b)
 
     module _ (b : keptB m ≡ true) where
-      pub letter-C : ruleC (storeOf m) ≡ false → letterC ≡ firstBroken m
+      pub letter-C : keptC m ≡ false → letterC ≡ firstBroken m
       unfolding firstBroken broken
       letter-C c = rw (a, b, c)
 
-      module _ (c : ruleC (storeOf m) ≡ true) where
+      module _ (c : keptC m ≡ true) where
         pub letter-D : isMemory (m .memory) ≡ false → letterD ≡ firstBroken m
         unfolding firstBroken broken
         letter-D d = rw (a, b, c, d)
@@ -56,7 +56,7 @@ module _ (m : Lent) where
 -- ---- the last three rules together
 
 -- The letter of E, F and G is the store's, where the rules before them are kept.
-pub rest-letters : (m : Lent) → sizesGood m ≡ true → ruleA (storeOf m) ≡ true → keptB m ≡ true → ruleC (storeOf m) ≡ true
+pub rest-letters : (m : Lent) → sizesGood m ≡ true → ruleA (storeOf m) ≡ true → keptB m ≡ true → keptC m ≡ true
     → isMemory (m .memory) ≡ true → restLetter (m .area) (m .cards) (m .lists) (m .head) ≡ firstBroken m
 unfolding restLetter
 rest-letters m z a b c d =

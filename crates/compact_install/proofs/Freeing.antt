@@ -2,14 +2,15 @@
 use Prim.Native.Nat.{ℕ, zero, suc, _+_, _≤_, _<_}
 use mathlib.Core.Path.{_≡_, refl, sym, _∙_, ap}
 use mathlib.Core.Bool.{Bool, false, cond, _&&_, _||_}
-use mathlib.Core.List.{List, [], _∷_, _++_, map, List·Memᴰ, List·Memᴰ·head, List·Memᴰ·tail}
+use mathlib.Core.List.{List, [], _∷_, _++_, map, List·Memᴰ·head, List·Memᴰ·tail}
 use native.Mathlib.Omega.{arith}
 use native.Mathlib.Numerals.{add-one}
 use borrow.Author.Tests.{eqb-true, eqb-false, ltb-true, ltb-false, lt-ltb, le-ltb}
 use lib.Dec.{eqb, ltb}
 use lib.ListN.{length, getD, set, drop, length-map, length-set, drop-of-length-le}
 use lib.Seq.{drop-cons, getD-set-same, getD-set-other}
-use Rattle.table.specs.Table.{tableBytes}
+use Rattle.table.specs.Table.{tableBytes, zeros}
+use Rattle.summary.specs.Summary.{summaryWords}
 use Rattle.ldc.specs.Lists.{any, flat}
 use Rattle.ldc.specs.Store.{Link, Card, free, Store, size, card, links, linksOf, withCard}
 use Rattle.ldc.specs.Lent.{lentOf}
@@ -17,13 +18,13 @@ use Rattle.ldc.specs.Rules.{named}
 use Rattle.ldc.specs.Steps.{release}
 use Rattle.ldc.proofs.Basics.Cases.{cases}
 use Rattle.ldc.proofs.Basics.ListLaws.{getD-map}
-use Rattle.ldc.proofs.Lent.Parts.{card-back, count-rowOf, good-rowOf, padded}
+use Rattle.ldc.proofs.Lent.Parts.{cards-rows, count-rowOf, good-rowOf, padded}
 use Rattle.ldc.proofs.Lent.Changes.{cards-withCard}
 use Rattle.ldc.proofs.Stores.Changes.{card-same, card-other, size-withCard}
 use Rattle.ldc.proofs.Stores.Hang.{Beside}
 use Rattle.ldc.proofs.Stores.Naming.{named-same}
 use Rattle.ldc.proofs.Stores.Release.{Bare, release-beside}
-use Rattle.ldc.specs.Layout.{linkLimit, linkCount, cardOf, rowOf, markWords, linkAt}
+use Rattle.ldc.specs.Layout.{linkLimit, linkCount, cardOf, rowWith, rowOf, rowsOf, markWords, linkAt}
 use Rattle.book.proofs.Rows.{link-of, count-of, noLink}
 use Rattle.compact_install.specs.Release.{rowNames, namedIn, placesNamed, freedIn, Clear}
 use Rattle.book_edit.proofs.Fitting.{few-cards}
@@ -75,14 +76,14 @@ places-end row i k h =
 -- One turn: this place is freed or not, by its flag.
 pub freed-turn : (held : List Bool) (row : List ℕ) (rows : List (List ℕ)) (i : ℕ) → Clear row → i < linkCount row → i < length held
     → freedIn (drop i held) (drop i (placesNamed row)) rows
-    ≡ freedIn (drop (i + 1) held) (drop (i + 1) (placesNamed row)) (cond (getD held i false) rows (set rows (linkAt row i .place) (rowOf free)))
+    ≡ freedIn (drop (i + 1) held) (drop (i + 1) (placesNamed row)) (cond (getD held i false) rows (set rows (linkAt row i .place) (rowWith free (zeros summaryWords))))
 freed-turn held row rows i k h l = rw (places-turn row i k h, drop-cons held i false l, ← add-one i)
 
 pub freed-end : (held : List Bool) (row : List ℕ) (rows : List (List ℕ)) (i : ℕ) → Clear row → linkCount row ≤ i
     → freedIn (drop i held) (drop i (placesNamed row)) rows ≡ rows
 freed-end held row rows i k h = rw (places-end row i k h)
 
-pub length-freed : (b : Bool) (f : ℕ) (rows : List (List ℕ)) → length (cond b rows (set rows f (rowOf free))) ≡ length rows
+pub length-freed : (b : Bool) (f : ℕ) (rows : List (List ℕ)) → length (cond b rows (set rows f (rowWith free (zeros summaryWords)))) ≡ length rows
 length-freed b f rows = cases b (λ q. rw q) (λ q. rw (q, length-set))
 
 -- No flag set yet, and one flag more.
@@ -109,8 +110,8 @@ flags-turn test flags i b l e h j =
     (λ x. rw (x, lt-ltb j (i + 1) (omega (arith, ltb-true j i x))))
     (λ x. rw (x, le-ltb j (i + 1) (omega (arith, ltb-false j i x, ne))))))
 
-pub clear-rowOf : (c : Card) → length (linksOf c) ≤ linkLimit → Clear (rowOf c)
-clear-rowOf c h = record { good = good-rowOf c; few = omega (arith, count-rowOf c) }
+pub clear-rowOf : (c : Card) (bytes : List ℕ) → length (linksOf c) ≤ linkLimit → Clear (rowOf c bytes)
+clear-rowOf c bytes h = record { good = good-rowOf c bytes; few = omega (arith, count-rowOf c bytes) }
 
 -- ---- in a store
 
@@ -118,10 +119,6 @@ module _ {A B : Type 0} where
   any-map : (g : A → B) (test : B → Bool) (xs : List A) → any test (map g xs) ≡ any (λ x. test (g x)) xs
   any-map g test [] = refl
   any-map g test (x ∷ xs) = ap (λ (b : Bool). test (g x) || b) (any-map g test xs)
-
-any-same : {A : Type 0} (t u : A → Bool) (xs : List A) → ((x : A) → List·Memᴰ x xs → t x ≡ u x) → any t xs ≡ any u xs
-any-same t u [] h = refl
-any-same t u (x ∷ xs) h = rw (h x (List·Memᴰ·head refl), any-same t u xs (λ y m. h y (List·Memᴰ·tail m)))
 
 -- A freed card has no links.
 freed-here : (cs : List Card) (f : ℕ) → getD (set cs f free) f free ≡ free
@@ -139,9 +136,8 @@ few-freed f s few p =
 pub named-shown : (s : Store) → ((p : ℕ) → length (links s p) ≤ linkLimit) → (f : ℕ) → namedIn f (lentOf s .cards) ≡ named s f
 unfolding namedIn rowNames named lentOf
 named-shown s few f =
-    any-map rowOf (rowNames f) (s .cards)
-    ∙ any-same (λ c. rowNames f (rowOf c)) (λ c. any (λ l. eqb (l .place) f) (linksOf c)) (s .cards)
-    (λ c m. ap (λ (x : Card). any (λ l. eqb (l .place) f) (linksOf x)) (card-back c (few-cards s few c m)))
+    sym (any-map cardOf (λ c. any (λ l. eqb (l .place) f) (linksOf c)) (rowsOf (s .cards) (s .places)))
+    ∙ ap (any (λ c. any (λ l. eqb (l .place) f) (linksOf c))) (cards-rows (s .cards) (s .places) (few-cards s few))
 
 -- To free a place whose card has no links changes no links.
 module _ (f : ℕ) (s : Store) (h : f < size s) (b : links s f ≡ []) where
@@ -155,6 +151,11 @@ module _ (f : ℕ) (s : Store) (h : f < size s) (b : links s f ≡ []) where
   freed-bare : (fs : List ℕ) → Bare s fs → Bare (withCard f free s) fs
   freed-bare fs o x m = (rw (size-withCard s f free) (o x m .0), freed-links x ∙ o x m .1)
 
+-- A freed card's row has no summary, whatever the place holds.
+pub freed-row : (f : ℕ) (s : Store) → lentOf (withCard f free s) .cards ≡ set (lentOf s .cards) f (rowWith free (zeros summaryWords))
+unfolding rowOf
+freed-row f s = cards-withCard s f free
+
 -- What the code leaves of the rows is lent of the store with these places released, if the flags say which of them are named.
 pub freed-shown : (fs : List ℕ) (held : List Bool) (s : Store) → ((p : ℕ) → length (links s p) ≤ linkLimit) → Bare s fs → length fs ≤ length held
     → ((i : ℕ) → i < length fs → getD held i false ≡ named s (getD fs i 0)) → freedIn held fs (lentOf s .cards) ≡ lentOf (release fs s) .cards
@@ -167,7 +168,7 @@ freed-shown (f ∷ fs) (x ∷ held) s few b l h =
     let rest : (i : ℕ) → i < length fs → getD held i false ≡ named s (getD fs i 0) = λ i hi. h (suc i) (omega arith) in
     cases (named s f)
     (λ q. rw (e, q) (freed-shown fs held s few later (omega arith) rest))
-    (λ q. rw (e, q) (ap (freedIn held fs) (sym (cards-withCard s f free))
+    (λ q. rw (e, q) (ap (freedIn held fs) (sym (freed-row f s))
     ∙ freed-shown fs held (withCard f free s) (few-freed f s few) (freed-bare f s (c .0) (c .1) fs later) (omega arith)
     (λ i hi. rest i hi ∙ sym (named-same s (withCard f free s) (getD fs i 0) (freed-links f s (c .0) (c .1))))))
 

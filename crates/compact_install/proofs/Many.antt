@@ -9,10 +9,10 @@ use lib.Seq.{sets, take-suc, take-all, take-append-le, drop-append-le, length-ta
 use Rattle.coding.proofs.Sets.{sets-append}
 use Rattle.table.specs.Limits.{placeSize}
 use Rattle.table.specs.Entry.{Entry}
-use Rattle.table.specs.Table.{tableBytes, placeOf}
+use Rattle.table.specs.Table.{tableBytes, placeOf, MemoryPlace}
 use Rattle.ldc.specs.Lists.{flat}
 use Rattle.ldc.specs.Store.{Store}
-use Rattle.ldc.specs.Layout.{mostPlaces, cursorIn}
+use Rattle.ldc.specs.Layout.{mostPlaces, cursorIn, tableSummary}
 use Rattle.ldc.specs.Lent.{lentOf}
 use Rattle.ldc.specs.Place.{placeTaken, written, writtenAll, placesTaken, freePlaces}
 use Rattle.ldc.proofs.Basics.ListLaws.{Each, getD-map, mem-getD, length-flat, parts, getD-parts, parts-flat}
@@ -46,7 +46,7 @@ module _ (out : List ℕ) (k : ℕ) (ts : List (List Entry)) (h : Tables out k t
   each-table : Each placeSize (map tableBytes ts)
   each-table i hi =
       let near : i < length ts = omega (arith, length-map ts tableBytes) in
-      ap length (getD-map tableBytes ts i [] [] near) ∙ h .whole (getD ts i []) (mem-getD ts i [] near)
+      ap length (getD-map tableBytes ts i [] [] near) ∙ h .whole (getD ts i []) (mem-getD ts i [] near) .0
 
   many : length (map tableBytes ts) ≡ k
   many = length-map ts tableBytes ∙ h .many
@@ -95,6 +95,9 @@ module _ (area : List ℕ) (cards : List (List ℕ)) (head noted₀ noted out : 
   enough : 1 ≤ freePlaces (writtenAll (take i ts) s)
   enough = omega (arith, f .room)
 
+  pub sofar-table : MemoryPlace (placeOf out i)
+  sofar-table = rw (table-at out k ts h i more) (h .whole (getD ts i []) (mem-getD ts i [] (omega (arith, h .many))))
+
   pub sofar-ready : (length area ≡ length cards * placeSize) × ((cursorIn head < length cards) × (1 ≤ freeRows cards))
   sofar-ready =
       let g = f .fits in
@@ -104,14 +107,15 @@ module _ (area : List ℕ) (cards : List (List ℕ)) (head noted₀ noted out : 
       let free = ap freeRows (f .shows .cards) ∙ free-shown (writtenAll (take i ts) s) g in
       (omega arith, (omega (arith, g .turns), omega (arith, enough)))
 
-  module _ (area′ : List ℕ) (cards′ : List (List ℕ)) (head′ : List ℕ) (p : ℕ) (t : Takes cards head cards′ head′ p)
+  module _ (area′ : List ℕ) (cards′ : List (List ℕ)) (head′ : List ℕ) (p : ℕ) (t : Takes cards head cards′ head′ p (tableSummary (placeOf out i)))
       (w : area′ ≡ sets area (p * placeSize) (placeOf out i)) where
     long : length (tableBytes (getD ts i [])) ≡ placeSize
-    long = h .whole (getD ts i []) (mem-getD ts i [] (omega (arith, h .many)))
+    long = h .whole (getD ts i []) (mem-getD ts i [] (omega (arith, h .many))) .0
 
     shown : (p ≡ placeTaken (writtenAll (take i ts) s)) × Shows area′ cards′ head′ (written (getD ts i []) (writtenAll (take i ts) s))
     shown =
-        shows-written (writtenAll (take i ts) s) (f .fits) (getD ts i []) enough long area area′ cards cards′ head head′ p (f .shows) t
+        shows-written (writtenAll (take i ts) s) (f .fits) (getD ts i []) enough long area area′ cards cards′ head head′ p (f .shows)
+        (rw (table-at out k ts h i more) at t)
         (w ∙ ap (sets area (p * placeSize)) (table-at out k ts h i more))
 
     pub sofar-place : p < mostPlaces

@@ -11,9 +11,12 @@ use lib.ListN.{length, getD, set, take, length-map, length-set}
 use lib.Seq.{getD-set-same, getD-set-other}
 use Rattle.table.specs.Limits.{placeSize}
 use Rattle.table.specs.Entry.{Entry}
-use Rattle.table.specs.Table.{tableBytes}
+use Rattle.table.specs.Table.{tableBytes, zeros}
+use Rattle.table.specs.Valid.{Valid}
+use Rattle.table.proofs.Decode.{decode-memory}
+use Rattle.summary.specs.Summary.{summaryWords}
 use Rattle.ldc.specs.Lists.{flat}
-use Rattle.ldc.specs.Store.{Link, Card, free, Store, size, card, links, linksOf, isFrozen, level, withCard}
+use Rattle.ldc.specs.Store.{Link, Card, free, Store, size, card, links, linksOf, isFrozen, bytesAt, level, withCard}
 use Rattle.ldc.specs.Lent.{Lent, lentOf}
 use Rattle.ldc.specs.Place.{writtenAll, placesTaken, freePlaces}
 use Rattle.ldc.specs.Tidy.{mergedTables}
@@ -21,8 +24,7 @@ use Rattle.ldc.specs.Steps.{replaced, release, doMerge}
 use Rattle.ldc.specs.Rules.{named}
 use Rattle.ldc.proofs.Basics.Cases.{cases, clash}
 use Rattle.ldc.proofs.Basics.ListLaws.{mem-getD, getD-map}
-use Rattle.ldc.proofs.Lent.Changes.{cards-withCard}
-use Rattle.ldc.proofs.Lent.Parts.{card-back, count-rowOf}
+use Rattle.ldc.proofs.Lent.Parts.{card-back, length-rows, count-rowOf}
 use Rattle.ldc.proofs.Lent.Round.{level-fits}
 use Rattle.ldc.proofs.Stores.CardFacts.{frozen-not-free, frozen-not-live, live-not-frozen, no-links}
 use Rattle.ldc.proofs.Stores.Changes.{below-size, card-other}
@@ -34,7 +36,7 @@ use Rattle.ldc.proofs.Stores.TableLaws.{tableBytes-long}
 use Rattle.ldc.proofs.Stores.Written.{Wrote, wrote-links}
 use Rattle.ldc.proofs.Steps.MergeShape.{p-live, p-occupied, linked-frozen, merged-pieces, filled-wrote, merge-from, merge-size}
 use Rattle.ldc.proofs.Steps.Merge.{sound-merge}
-use Rattle.ldc.specs.Layout.{levelCount, linkLimit, linkCount, cardOf, rowOf, linkAt}
+use Rattle.ldc.specs.Layout.{levelCount, linkLimit, linkCount, cardOf, summaryOn, rowWith, rowOf, linkAt}
 use Rattle.ldc.specs.Facts.{Merging}
 use Rattle.book.proofs.Rows.{link-of, noLink}
 use Rattle.book.specs.Pieces.{lent}
@@ -42,7 +44,7 @@ use Rattle.compact_install.specs.Release.{namedIn, heldIn, placesNamed, 
 use Rattle.book_edit.specs.Shown.{Fits}
 use Rattle.compact_install.specs.Tables.{Tables, placed, Lends, Placing}
 use Rattle.book_edit.proofs.Fitting.{row-shown}
-use Rattle.compact_install.proofs.Freeing.{clear-rowOf, few-freed, named-shown, freed-shown, area-released, lists-released, head-released, memory-released}
+use Rattle.compact_install.proofs.Freeing.{clear-rowOf, freed-row, few-freed, named-shown, freed-shown, area-released, lists-released, head-released, memory-released}
 use Rattle.compact_install.proofs.Many.{length-taken, fits-all}
 use Rattle.compact_install.proofs.Placed.{length-new}
 
@@ -60,11 +62,14 @@ module _ (s : Store) (S : Sound s) (f : Fits s) (n p : ℕ) (g : Merging s n p) 
   pub place-below : p < size s
   place-below = below-size s p (p-occupied s S n p (g .on) enough)
 
+  pieces-valid : (t : List Entry) → List·Memᴰ t ts → Valid t
+  pieces-valid t m = merged-pieces s S p (p-occupied s S n p (g .on) enough) n t m .valid
+
   whole-tables : (t : List Entry) → List·Memᴰ t ts → length (tableBytes t) ≡ placeSize
-  whole-tables t m = tableBytes-long t (merged-pieces s S p (p-occupied s S n p (g .on) enough) n t m .valid)
+  whole-tables t m = tableBytes-long t (pieces-valid t m)
 
   pub tables-merged : (out : List ℕ) (k : ℕ) → length ts ≡ k → take (k * placeSize) out ≡ flat (map tableBytes ts) → Tables out k ts
-  tables-merged out k h b = record { many = h; whole = whole-tables; bytes = b }
+  tables-merged out k h b = record { many = h; whole = λ t m. (whole-tables t m, decode-memory t (pieces-valid t m)); bytes = b }
 
   fits-filled : Fits filled
   fits-filled = fits-all ts s f whole-tables enough
@@ -84,26 +89,26 @@ module _ (s : Store) (S : Sound s) (f : Fits s) (n p : ℕ) (g : Merging s n p) 
 
   -- ---- the old place's row
 
-  row-card : cardOf (rowOf (card s p)) ≡ card s p
-  unfolding links
-  row-card = card-back (card s p) (f .few p)
+  row-card : cardOf (rowOf (card s p) (bytesAt s p)) ≡ card s p
+  unfolding links rowOf
+  row-card = card-back (card s p) (summaryOn (card s p) (bytesAt s p)) (f .few p)
 
   pub row-clear : (rows : List (List ℕ)) → rows ≡ lentOf s .cards → Clear (getD rows p [])
   unfolding links
-  row-clear rows e = rw (e, row-shown s f p place-below) (clear-rowOf (card s p) (f .few p))
+  row-clear rows e = rw (e, row-shown s f p place-below) (clear-rowOf (card s p) (bytesAt s p) (f .few p))
 
   pub row-places : (rows : List (List ℕ)) → rows ≡ lentOf s .cards → placesNamed (getD rows p []) ≡ map (λ (l : Link). l .place) (links s p)
   unfolding links placesNamed
   row-places rows e = rw (e, row-shown s f p place-below, row-card)
 
   -- Its links, and the places that they name.
-  link-at : (i : ℕ) (d : Link) → i < length (links s p) → getD (links s p) i d ≡ linkAt (rowOf (card s p)) i
+  link-at : (i : ℕ) (d : Link) → i < length (links s p) → getD (links s p) i d ≡ linkAt (rowOf (card s p) (bytesAt s p)) i
   unfolding links
   link-at i d h =
-      let near : i < length (linksOf (cardOf (rowOf (card s p)))) = rw row-card h in
-      ap (λ (c : Card). getD (linksOf c) i d) (sym row-card) ∙ link-of (rowOf (card s p)) i d near
+      let near : i < length (linksOf (cardOf (rowOf (card s p) (bytesAt s p)))) = rw row-card h in
+      ap (λ (c : Card). getD (linksOf c) i d) (sym row-card) ∙ link-of (rowOf (card s p) (bytesAt s p)) i d near
 
-  link-below : (i : ℕ) → i < length (links s p) → linkAt (rowOf (card s p)) i .place < size s
+  link-below : (i : ℕ) → i < length (links s p) → linkAt (rowOf (card s p) (bytesAt s p)) i .place < size s
   link-below i h =
       let d : Link = noLink in
       let l : Link = getD (links s p) i d in
@@ -112,8 +117,8 @@ module _ (s : Store) (S : Sound s) (f : Fits s) (n p : ℕ) (g : Merging s n p) 
   pub row-below : (rows : List (List ℕ)) → rows ≡ lentOf s .cards → (i : ℕ) → i < linkCount (getD rows p []) → linkAt (getD rows p []) i .place < size s
   unfolding links
   row-below rows e i h =
-      let row : getD rows p [] ≡ rowOf (card s p) = ap (λ (x : List (List ℕ)). getD x p []) e ∙ row-shown s f p place-below in
-      let near : i < length (linksOf (card s p)) = omega (arith, ap linkCount row, count-rowOf (card s p)) in
+      let row : getD rows p [] ≡ rowOf (card s p) (bytesAt s p) = ap (λ (x : List (List ℕ)). getD x p []) e ∙ row-shown s f p place-below in
+      let near : i < length (linksOf (card s p)) = omega (arith, ap linkCount row, count-rowOf (card s p) (bytesAt s p)) in
       rw row (link-below i near)
 
   -- ---- what names the frozen places
@@ -146,26 +151,26 @@ module _ (s : Store) (S : Sound s) (f : Fits s) (n p : ℕ) (g : Merging s n p) 
   held-named : (rows : List (List ℕ)) → rows ≡ lentOf s .cards → (x : ℕ) → heldIn p x rows ≡ named cleared x
   unfolding heldIn
   held-named rows e x =
-      ap (λ (r : List (List ℕ)). namedIn x (set r p (rowOf free))) e
-      ∙ ap (namedIn x) (sym (cards-withCard s p free))
+      ap (λ (r : List (List ℕ)). namedIn x (set r p (rowWith free (zeros summaryWords)))) e
+      ∙ ap (namedIn x) (sym (freed-row p s))
       ∙ named-shown (withCard p free s) (few-freed p s (f .few)) x
       ∙ sym (named-same (withCard p free s) cleared x cleared-links)
 
-  row-count : linkCount (rowOf (card s p)) ≡ length (links s p)
+  row-count : linkCount (rowOf (card s p) (bytesAt s p)) ≡ length (links s p)
   unfolding links
-  row-count = count-rowOf (card s p)
+  row-count = count-rowOf (card s p) (bytesAt s p)
 
   -- The flags say of each place whether it is named when the old place is freed.
   flags-named : (rows : List (List ℕ)) → rows ≡ lentOf s .cards → (held : List Bool) → Flags rows p held
       → (i : ℕ) → i < length (map (λ (l : Link). l .place) (links s p)) → getD held i false ≡ named cleared (getD (map (λ (l : Link). l .place) (links s p)) i 0)
   flags-named rows e held fl i h =
       let d : Link = noLink in
-      let row : getD rows p [] ≡ rowOf (card s p) = ap (λ (x : List (List ℕ)). getD x p []) e ∙ row-shown s f p place-below in
+      let row : getD rows p [] ≡ rowOf (card s p) (bytesAt s p) = ap (λ (x : List (List ℕ)). getD x p []) e ∙ row-shown s f p place-below in
       let near : i < length (links s p) = omega (arith, length-map (links s p) (λ (l : Link). l .place)) in
-      let count : i < linkCount (rowOf (card s p)) = omega (arith, row-count) in
-      let here : getD (map (λ (l : Link). l .place) (links s p)) i 0 ≡ linkAt (rowOf (card s p)) i .place =
+      let count : i < linkCount (rowOf (card s p) (bytesAt s p)) = omega (arith, row-count) in
+      let here : getD (map (λ (l : Link). l .place) (links s p)) i 0 ≡ linkAt (rowOf (card s p) (bytesAt s p)) i .place =
       getD-map (λ (l : Link). l .place) (links s p) i d 0 near ∙ ap (λ (l : Link). l .place) (link-at i d near) in
-      fl i ∙ rw (row, lt-ltb i (linkCount (rowOf (card s p))) count, here) (held-named rows e (linkAt (rowOf (card s p)) i .place))
+      fl i ∙ rw (row, lt-ltb i (linkCount (rowOf (card s p) (bytesAt s p))) count, here) (held-named rows e (linkAt (rowOf (card s p) (bytesAt s p)) i .place))
 
   -- ---- the level's list
 
@@ -193,20 +198,20 @@ module _ (s : Store) (S : Sound s) (f : Fits s) (n p : ℕ) (g : Merging s n p) 
       (le : Lends (lent area cards lists head []) (placed n p (mergedTables s n p) s)) where
     counted : length cards ≡ size filled
     unfolding lentOf size
-    counted = ap length (le .shows .cards) ∙ length-map (filled .cards) rowOf
+    counted = ap length (le .shows .cards) ∙ length-rows (filled .cards) (filled .places)
 
     pub merge-below : p < length cards
     merge-below = omega (arith, place-below, counted, wrote-filled .same-size)
 
     -- ---- the old place freed, and the frozen ones released
 
-    module _ (cards′ : List (List ℕ)) (ec′ : cards′ ≡ set cards p (rowOf free)) where
+    module _ (cards′ : List (List ℕ)) (ec′ : cards′ ≡ set cards p (rowWith free (zeros summaryWords))) where
       cleared-rows : cards′ ≡ lentOf cleared .cards
       unfolding lentOf
-      cleared-rows = ec′ ∙ ap (λ (rows : List (List ℕ)). set rows p (rowOf free)) (le .shows .cards) ∙ sym (cards-withCard (placed n p ts s) p free)
+      cleared-rows = ec′ ∙ ap (λ (rows : List (List ℕ)). set rows p (rowWith free (zeros summaryWords))) (le .shows .cards) ∙ sym (freed-row p (placed n p ts s))
 
       pub merge-many : length cards′ ≡ size s
-      merge-many = ap length ec′ ∙ length-set cards p (rowOf free) ∙ counted ∙ wrote-filled .same-size
+      merge-many = ap length ec′ ∙ length-set cards p (rowWith free (zeros summaryWords)) ∙ counted ∙ wrote-filled .same-size
 
       module _ (rows cards″ : List (List ℕ)) (memory : List ℕ) (er : rows ≡ lentOf s .cards)
           (held : List Bool) (eight : length held ≡ linkLimit) (fl : Flags rows p held)

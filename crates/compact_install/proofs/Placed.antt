@@ -68,7 +68,7 @@ module _ (area₀ : List ℕ) (cards₀ : List (List ℕ)) (lists head₀ : List
   counted = ap length (all .1 .0 .cards) ∙ length-cards filled (all .0)
 
   listed : lists ≡ lentOf filled .lists
-  listed = g .lends .lists ∙ sym (lists-all ts s (g .fits) (g .told .whole) enough)
+  listed = g .lends .lists ∙ sym (lists-all ts s (g .fits) (λ t m. g .told .whole t m .0) enough)
 
   items : itemsIn (length cards) lists head n ≡ level s n
   items = items-at filled (all .0) n (g .four) (length cards) lists head counted listed (all .1 .0 .head) ∙ level-filled

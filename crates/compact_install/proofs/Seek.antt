@@ -10,14 +10,15 @@ use lib.Dec.{eqb, ltb}
 use lib.ListN.{length, getD, set, drop, drop-of-length-le}
 use lib.Seq.{drop-cons, getD-set-same, getD-set-other}
 use Rattle.coding.specs.Number.{Bytes}
-use Rattle.table.specs.Table.{entries, placeOf}
+use Rattle.table.specs.Table.{entries, placeOf, zeros}
 use Rattle.table.specs.Search.{leastKey, greatestKey}
+use Rattle.summary.specs.Summary.{summaryWords}
 use Rattle.ldc.specs.Lists.{any}
 use Rattle.ldc.specs.Store.{Card, free, linksOf, Store, spanStart, spanEnd}
 use Rattle.ldc.proofs.Basics.Cases.{cases, clash, both-left, both-right, negated}
 use Rattle.ldc.proofs.Lent.Parts.{card-back}
 use Rattle.ldc.proofs.Stores.Naming.{any-intro, any-elim, any-getD, any-index, agree}
-use Rattle.ldc.specs.Layout.{stateOf, cardOf, rowOf}
+use Rattle.ldc.specs.Layout.{stateOf, cardOf, rowWith}
 use Rattle.ldc.specs.Facts.{Spans}
 use Rattle.read.specs.Level.{rank}
 use Rattle.read.proofs.Rank.{spans, least-within}
@@ -54,9 +55,9 @@ spans-behind s low (p ∷ ps) (suc j) h hj = spans-behind s (suc (spanEnd s p)) 
 
 -- ---- rows without links
 
-free-names : (f : ℕ) → rowNames f (rowOf free) ≡ false
+free-names : (f : ℕ) → rowNames f (rowWith free (zeros summaryWords)) ≡ false
 unfolding rowNames
-free-names f = ap (λ (c : Card). any (λ l. eqb (l .place) f) (linksOf c)) (card-back free (omega arith))
+free-names f = ap (λ (c : Card). any (λ l. eqb (l .place) f) (linksOf c)) (card-back free (zeros summaryWords) (omega arith))
 
 none-names : (f : ℕ) → rowNames f [] ≡ false
 unfolding rowNames cardOf stateOf
@@ -86,19 +87,19 @@ module _ (area : List ℕ) (cards : List (List ℕ)) (items : List ℕ) (p f : �
   held-all : p < length cards → heldIn p f cards ≡ heldAmong p f cards items
   unfolding heldIn namedIn heldAmong
   held-all below =
-      agree (any (rowNames f) (set cards p (rowOf free))) (any test items)
-      (λ h. let r = any-index (rowNames f) (set cards p (rowOf free)) [] h in
+      agree (any (rowNames f) (set cards p (rowWith free (zeros summaryWords)))) (any test items)
+      (λ h. let r = any-index (rowNames f) (set cards p (rowWith free (zeros summaryWords))) [] h in
       cases (eqb (r .0) p)
-      (λ e. let here : getD (set cards p (rowOf free)) (r .0) [] ≡ rowOf free = rw (eqb-true (r .0) p e) (getD-set-same cards p (rowOf free) [] below) in
+      (λ e. let here : getD (set cards p (rowWith free (zeros summaryWords))) (r .0) [] ≡ rowWith free (zeros summaryWords) = rw (eqb-true (r .0) p e) (getD-set-same cards p (rowWith free (zeros summaryWords)) [] below) in
       clash (rw here at (r .1)) (free-names f))
-      (λ e. let here = getD-set-other cards p (r .0) (rowOf free) [] (eqb-false (r .0) p e) in
+      (λ e. let here = getD-set-other cards p (r .0) (rowWith free (zeros summaryWords)) [] (eqb-false (r .0) p e) in
       let names : rowNames f (getD cards (r .0) []) ≡ true = rw here at (r .1) in
       any-intro test items (r .0) (so .among (r .0) names) (rw (e, names))))
       (λ h. let r = any-elim test items h in
       let q : ℕ = r .0 in
       let other = eqb-false q p (negated (eqb q p) (both-left (not (eqb q p)) (rowNames f (getD cards q [])) (r .1 .1))) in
-      let here = getD-set-other cards p q (rowOf free) [] other in
-      any-getD (rowNames f) (set cards p (rowOf free)) [] q (none-names f) (rw here (named-test q (r .1 .1))))
+      let here = getD-set-other cards p q (rowWith free (zeros summaryWords)) [] other in
+      any-getD (rowNames f) (set cards p (rowWith free (zeros summaryWords))) [] q (none-names f) (rw here (named-test q (r .1 .1))))
 
   pub held-front : p < length cards
       → heldIn p f cards

@@ -6,12 +6,13 @@ use mathlib.Core.Bool.{Bool, true, false, cond, not, _&&_}
 use mathlib.Core.List.{List, [], _∷_, map, List·Memᴰ}
 use lib.Dec.{eqb, ltb}
 use lib.ListN.{length, getD, set}
-use Rattle.table.specs.Table.{entries, placeOf}
+use Rattle.table.specs.Table.{entries, placeOf, zeros}
 use Rattle.table.specs.Search.{leastKey, greatestKey}
+use Rattle.summary.specs.Summary.{summaryWords}
 use Rattle.ldc.specs.Lists.{any}
 use Rattle.ldc.specs.Store.{free, linksOf, spanStart, spanEnd}
 use Rattle.ldc.specs.Lent.{rowGood}
-use Rattle.ldc.specs.Layout.{linkLimit, linkCount, linkAt, cardOf, rowOf}
+use Rattle.ldc.specs.Layout.{linkLimit, linkCount, linkAt, cardOf, rowWith}
 use Rattle.read.specs.Shown.{Tabled, Legible, Rising}
 use Rattle.book.specs.Rows.{shownBy}
 
@@ -23,7 +24,7 @@ unfoldable pub namedIn : (place : ℕ) → List (List ℕ) → Bool
 namedIn f rows = any (rowNames f) rows
 
 unfoldable pub heldIn : (p place : ℕ) → List (List ℕ) → Bool
-heldIn p f rows = namedIn f (set rows p (rowOf free))
+heldIn p f rows = namedIn f (set rows p (rowWith free (zeros summaryWords)))
 
 -- The same of some tables, by their places.
 unfoldable pub heldAmong : (p place : ℕ) → List (List ℕ) → (items : List ℕ) → Bool
@@ -42,7 +43,7 @@ Flags rows p flags =
 abbrev pub freedIn : List Bool → (places : List ℕ) → List (List ℕ) → List (List ℕ)
 freedIn bs [] rows = rows
 freedIn [] (f ∷ fs) rows = rows
-freedIn (b ∷ bs) (f ∷ fs) rows = freedIn bs fs (cond b rows (set rows f (rowOf free)))
+freedIn (b ∷ bs) (f ∷ fs) rows = freedIn bs fs (cond b rows (set rows f (rowWith free (zeros summaryWords))))
 
 -- A row that says as many links as it has, no more than there is room for.
 pub record Clear (row : List ℕ) : Type 0 where

@@ -6,7 +6,7 @@ use mathlib.Core.List.{List, map, List·Memᴰ}
 use lib.ListN.{length, take}
 use Rattle.table.specs.Limits.{placeSize}
 use Rattle.table.specs.Entry.{Entry}
-use Rattle.table.specs.Table.{tableBytes}
+use Rattle.table.specs.Table.{tableBytes, MemoryPlace}
 use Rattle.ldc.specs.Lists.{flat}
 use Rattle.ldc.specs.Layout.{levelCount}
 use Rattle.ldc.specs.Store.{Store, size, level, withLevel}
@@ -19,7 +19,7 @@ use Rattle.compact_merge.specs.Merge.{mergeTables}
 -- The first k places of `out` are these tables.
 pub record Tables (out : List ℕ) (k : ℕ) (ts : List (List Entry)) : Type 0 where
   pub many : length ts ≡ k
-  pub whole : (t : List Entry) → List·Memᴰ t ts → length (tableBytes t) ≡ placeSize
+  pub whole : (t : List Entry) → List·Memᴰ t ts → MemoryPlace (tableBytes t)
   pub bytes : take (k * placeSize) out ≡ flat (map tableBytes ts)
 
 -- The tables written, and the places that they take in level n's list for place p.

@@ -29,7 +29,7 @@ pub fn finish_merge(
     let items = list::items(lists, cards.len(), head.length_of(n), n);
     let held = release::find_held(area, cards, items, p);
     let done = write::write_all(area, cards, lists, head, n, p, out, k);
-    row::set_state(cards, p, row::FREE);
+    row::free(cards, p);
     release::release(cards, row, held);
     done
 }

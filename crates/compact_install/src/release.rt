@@ -5,7 +5,9 @@ ghost use mathlib.Core.List.{[]};
 ghost use Prim.Native.Nat.{_≤_, _<_};
 ghost use lib.ListN.{length, getD, set, drop};
 ghost use Rattle.ldc.specs.Store.{free};
-ghost use Rattle.ldc.specs.Layout.{rowOf};
+ghost use Rattle.table.specs.Table.{zeros};
+ghost use Rattle.summary.specs.Summary.{summaryWords};
+ghost use Rattle.ldc.specs.Layout.{rowWith};
 ghost use Rattle.compact_install.specs.Release.{rowNames, heldIn, heldAmong, placesNamed, Flags, freedIn, Clear, Names, Sought, SoughtAll};
 use book::limits::LINK_LIMIT;
 use book::row;
@@ -79,12 +81,12 @@ pub fn find_held(area: &[u8], cards: &[Row], items: &[u16], p: usize) -> [bool; 
 // Frees place f, unless it is held.
 fn release_one(cards: &mut [Row], f: usize, held: bool)
     requires { ⌜ f < length (now cards) ⌝ }
-    ensures { λ _. ⌜ now (cards .exit) ≡ cond held (now (cards .entry)) (set (now (cards .entry)) f (rowOf free)) ⌝ }
+    ensures { λ _. ⌜ now (cards .exit) ≡ cond held (now (cards .entry)) (set (now (cards .entry)) f (rowWith free (zeros summaryWords))) ⌝ }
 {
     if held {
         return;
     }
-    row::set_state(cards, f, row::FREE);
+    row::free(cards, f);
 }
 
 // Of the places that the links of this row named, frees those that no other table holds.

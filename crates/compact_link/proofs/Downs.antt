@@ -21,9 +21,11 @@ use Rattle.ldc.proofs.Stores.Frame.{map-cong, spanEnd-same, links-same}
 use Rattle.ldc.proofs.Stores.Hang.{Beside, hang-beside}
 use Rattle.ldc.proofs.Stores.Sound.{Sound}
 use Rattle.ldc.proofs.Stores.SoundRules.{threshold-eight}
-use Rattle.ldc.specs.Layout.{mostPlaces, levelCount, cardOf, rowOf, lengthIn, itemsIn}
+use Rattle.ldc.specs.Layout.{mostPlaces, levelCount, cardOf, tableSummary, rowOf, lengthIn, itemsIn}
 use Rattle.book.specs.Pieces.{lent}
+use Rattle.book.specs.Row.{frozenRow}
 use Rattle.book.specs.Rows.{shownBy}
+use Rattle.book.proofs.Rows.{freeze-row}
 use Rattle.read.specs.Shown.{Tabled, Listed}
 use Rattle.read.specs.Look.{Levels}
 use Rattle.read.proofs.Levels.{sound-kept, levels-kept}
@@ -32,7 +34,7 @@ use Rattle.read.proofs.Rank.{spans}
 use Rattle.read.proofs.Shows.{carded}
 use Rattle.book_edit.specs.Shown.{Fits}
 use Rattle.book_edit.proofs.Keeping.{fits-kept}
-use Rattle.compact_link.specs.Range.{slicesFrom, hungRows, Hosts}
+use Rattle.compact_link.specs.Range.{slicesFrom, hungRows, Bare, Hosts}
 use Rattle.compact_link.specs.Down.{Ready}
 use Rattle.compact_link.proofs.Hung.{Open, live-row, hung-cards}
 
@@ -150,7 +152,7 @@ module _ (m : Lent) (n p : ℕ) (r : Ready m n p) where
         roomy = λ i h.
             let q∈ : List·Memᴰ (getD below i 0) (level s (suc n)) = rw below-level (mem-getD below i 0 h) in
             let o = below-live (getD below i 0) q∈ in
-            record { held = links s (getD below i 0); shown = sym (ap (λ (x : Lent). getD (x .cards) (getD below i 0) []) back) ∙ live-row s (getD below i 0) (o .0); room = o .1 };
+            record { held = links s (getD below i 0); summary = tableSummary (bytesAt s (getD below i 0)); shown = sym (ap (λ (x : Lent). getD (x .cards) (getD below i 0) []) back) ∙ live-row s (getD below i 0) (o .0); room = o .1 };
         spans = spans (m .area) (m .cards) below (r .shape .area-bytes) (L .legible) up;
       }
 
@@ -215,17 +217,29 @@ module _ (m : Lent) (n p : ℕ) (r : Ready m n p) where
       let o = below-live q q∈ in
       (rw c (o .0), rw (links-same s first q c) (o .1))
 
-  linked-cards : hungRows (table s p) (slicesOf s n p) (set (m .cards) p (rowOf frozen)) ≡ lentOf (doLink n p (slicesOf s n p) s) .cards
+  -- the chosen table's row, and the row frozen
+  pub ready-bare : Bare (getD (m .cards) p [])
+  ready-bare = record {
+    summary = tableSummary (bytesAt s p);
+    shown = sym (ap (λ (x : Lent). getD (x .cards) p []) back) ∙ live-row s p (listed-live s S n p (r .chosen .on)) ∙ rw (r .chosen .bare);
+  }
+
+  frozen-row : rowOf frozen (bytesAt (leaves n p s) p) ≡ frozenRow (getD (m .cards) p [])
+  unfolding rowOf leaves bytesAt ready-bare tableSummary
+  frozen-row = sym (rw (ready-bare .shown) (freeze-row (tableSummary (bytesAt s p))))
+
+  linked-cards : hungRows (table s p) (slicesOf s n p) (set (m .cards) p (frozenRow (getD (m .cards) p []))) ≡ lentOf (doLink n p (slicesOf s n p) s) .cards
   unfolding doLink
   linked-cards =
       let same : slicesFrom s (table s p) p 0 (level s (suc n)) ≡ slicesOf s n p = unfold slicesFrom slicesOf in refl in
       let left : lentOf (leaves n p s) .cards ≡ lentOf s .cards = unfold lentOf leaves in refl in
-      let rows : lentOf first .cards ≡ set (m .cards) p (rowOf frozen) =
-      cards-withCard (leaves n p s) p frozen ∙ ap (λ (xs : List (List ℕ)). set xs p (rowOf frozen)) (left ∙ ap (λ (x : Lent). x .cards) back) in
+      let rows : lentOf first .cards ≡ set (m .cards) p (frozenRow (getD (m .cards) p [])) =
+      cards-withCard (leaves n p s) p frozen
+      ∙ ap₂ (λ (xs : List (List ℕ)) (row : List ℕ). set xs p row) (left ∙ ap (λ (x : Lent). x .cards) back) frozen-row in
       rw (← same, ← rows) (hung-cards s (table s p) p 0 (level s (suc n)) first (level-spans s S n) first-open)
 
   pub linked-lent : (cards : List (List ℕ)) (lists head : List ℕ)
-      → cards ≡ hungRows (entries (placeOf (m .area) p)) (slicesFrom (shownBy (m .area) (m .cards)) (entries (placeOf (m .area) p)) p 0 below) (set (m .cards) p (rowOf frozen))
+      → cards ≡ hungRows (entries (placeOf (m .area) p)) (slicesFrom (shownBy (m .area) (m .cards)) (entries (placeOf (m .area) p)) p 0 below) (set (m .cards) p (frozenRow (getD (m .cards) p [])))
       → lists ≡ lentOf (leaves n p s) .lists → head ≡ lentOf (leaves n p s) .head
       → lent (m .area) cards lists head (m .memory) ≡ lentOf (doLink n p (slicesOf s n p) s)
   unfolding doLink
@@ -237,6 +251,6 @@ module _ (m : Lent) (n p : ℕ) (r : Ready m n p) where
       let y : lentOf s .memory ≡ lentOf first .memory = unfold lentOf leaves in refl in
       lent-is (m .area) cards lists head (m .memory) (lentOf (doLink n p rs s))
       (sym (ap (λ (x : Lent). x .area) back) ∙ a ∙ sym (hang-area (table s p) rs first))
-      (ce ∙ ap₂ (λ (es : List Entry) (xs : List Slice). hungRows es xs (set (m .cards) p (rowOf frozen))) (sym ready-table) slices-shown ∙ linked-cards)
+      (ce ∙ ap₂ (λ (es : List Entry) (xs : List Slice). hungRows es xs (set (m .cards) p (frozenRow (getD (m .cards) p [])))) (sym ready-table) slices-shown ∙ linked-cards)
       (gl ∙ l ∙ sym (hang-lists (table s p) rs first)) (gh ∙ h ∙ sym (hang-head (table s p) rs first))
       (sym (ap (λ (x : Lent). x .memory) back) ∙ y ∙ sym (hang-memory (table s p) rs first))

@@ -8,7 +8,7 @@ use native.Mathlib.Omega.{arith}
 use lib.ListN.{length, getD}
 use Rattle.table.specs.Entry.{Entry}
 use Rattle.ldc.specs.Lists.{isEmpty}
-use Rattle.ldc.specs.Store.{live, Store, size, card, links, isLive, within, spanEnd, withCard}
+use Rattle.ldc.specs.Store.{live, Store, size, card, links, isLive, bytesAt, within, spanEnd, withCard}
 use Rattle.ldc.specs.Lent.{lentOf}
 use Rattle.ldc.specs.Tidy.{Slice, greatest}
 use Rattle.ldc.specs.Steps.{linkTo, hang}
@@ -17,9 +17,9 @@ use Rattle.ldc.proofs.Lent.Changes.{cards-withCard}
 use Rattle.ldc.proofs.Stores.CardFacts.{live-not-free, live-links}
 use Rattle.ldc.proofs.Stores.Changes.{card-other, below-size}
 use Rattle.ldc.proofs.Stores.Frame.{links-same}
-use Rattle.ldc.specs.Layout.{linkLimit, rowOf}
+use Rattle.ldc.specs.Layout.{linkLimit, tableSummary, rowWith, rowOf}
 use Rattle.ldc.specs.Facts.{Spans}
-use Rattle.book.proofs.Rows.{row-at, link-added}
+use Rattle.book.proofs.Rows.{getD-rows, link-added}
 use Rattle.compact_link.specs.Range.{slicesFrom, hungRow, hungRows}
 use Rattle.compact_link.proofs.Slices.{slices-nil, slices-last, slices-short, slices-take, slices-pass, spans-above}
 
@@ -28,9 +28,11 @@ abbrev pub Open : Store → ℕ → Type 0
 Open t q = (isLive (card t q) ≡ true) × (length (links t q) < linkLimit)
 
 -- The row of a live card.
-pub live-row : (t : Store) (q : ℕ) → isLive (card t q) ≡ true → getD (lentOf t .cards) q [] ≡ rowOf (live (links t q))
-unfolding lentOf links card size
-live-row t q h = row-at (t .cards) q (below-size t q (live-not-free (card t q) h)) ∙ ap rowOf (live-links (card t q) h)
+pub live-row : (t : Store) (q : ℕ) → isLive (card t q) ≡ true → getD (lentOf t .cards) q [] ≡ rowWith (live (links t q)) (tableSummary (bytesAt t q))
+unfolding lentOf links card size bytesAt rowOf
+live-row t q h =
+    getD-rows (t .cards) (t .places) q (below-size t q (live-not-free (card t q) h))
+    ∙ ap (λ c. rowOf c (getD (t .places) q [])) (live-links (card t q) h)
 
 abbrev hungOne : (chosen : List Entry) → Slice → Store → Store
 hungOne es r t = withCard (r .on) (live (links t (r .on) ++ (linkTo es r ∷ []))) t
@@ -38,8 +40,8 @@ hungOne es r t = withCard (r .on) (live (links t (r .on) ++ (linkTo es r ∷ [])
 hung-one : (es : List Entry) (r : Slice) (t : Store) → Open t (r .on) → hungRow es r (lentOf t .cards) ≡ lentOf (hungOne es r t) .cards
 unfolding hungRow
 hung-one es r t o =
-    rw (live-row t (r .on) (o .0), link-added (links t (r .on)) (linkTo es r) (o .1))
-    (sym (cards-withCard t (r .on) (live (links t (r .on) ++ (linkTo es r ∷ [])))))
+    rw (live-row t (r .on) (o .0), link-added (links t (r .on)) (linkTo es r) (tableSummary (bytesAt t (r .on))) (o .1))
+    (unfold rowOf in sym (cards-withCard t (r .on) (live (links t (r .on) ++ (linkTo es r ∷ [])))))
 
 open-other : (es : List Entry) (r : Slice) (t : Store) (q : ℕ) → (q ≡ r .on → ⊥) → Open t q → Open (hungOne es r t) q
 open-other es r t q n o =

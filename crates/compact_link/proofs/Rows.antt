@@ -16,48 +16,49 @@ use Rattle.ldc.specs.Tidy.{Slice, Reach, responsible, holding}
 use Rattle.ldc.specs.Steps.{linkTo}
 use Rattle.ldc.proofs.Basics.Cases.{cases}
 use Rattle.ldc.proofs.Basics.ListLaws.{mem-getD, getD-mem}
-use Rattle.ldc.proofs.Lent.Parts.{card-back, count-rowOf, good-rowOf}
+use Rattle.ldc.proofs.Lent.Parts.{card-back, count-rowWith, good-rowWith}
 use Rattle.ldc.proofs.Stores.Frame.{map-cong, spanStart-same, spanEnd-same, spansRise-same}
 use Rattle.ldc.proofs.Stores.Spans.{spans-rise}
-use Rattle.ldc.specs.Layout.{linkLimit, linkCount, cardOf, rowOf, linkAt}
+use Rattle.ldc.specs.Layout.{linkLimit, linkCount, cardOf, rowWith, linkAt}
 use Rattle.ldc.specs.Facts.{Spans}
-use Rattle.book.proofs.Rows.{link-of, link-added, noLink}
+use Rattle.book.specs.Row.{frozenRow}
+use Rattle.book.proofs.Rows.{link-of, link-added, freeze-row, noLink}
 use Rattle.book.specs.Pieces.{lent}
 use Rattle.book.specs.Rows.{shownBy}
 use Rattle.read.specs.Shown.{Tabled, Legible}
 use Rattle.read.proofs.Pieces.{links-shown}
 use Rattle.read.proofs.Shows.{carded}
-use Rattle.compact_link.specs.Range.{highOf, slicesFrom, hungRow, Hosts}
+use Rattle.compact_link.specs.Range.{highOf, slicesFrom, hungRow, Bare, Hosts}
 use Rattle.compact_link.proofs.Slices.{high-other, spans-above, spans-behind}
 
 -- ---- one row written
 
-linkAt-row : (c : Card) → length (linksOf c) ≤ linkLimit → (i : ℕ) (d : Link) → i < length (linksOf c) → linkAt (rowOf c) i ≡ getD (linksOf c) i d
-linkAt-row c few i d h =
-    let e : linksOf (cardOf (rowOf c)) ≡ linksOf c = ap linksOf (card-back c few) in
-    sym (link-of (rowOf c) i d (rw e h)) ∙ ap (λ (ls : List Link). getD ls i d) e
+linkAt-row : (c : Card) (w : List ℕ) → length (linksOf c) ≤ linkLimit → (i : ℕ) (d : Link) → i < length (linksOf c) → linkAt (rowWith c w) i ≡ getD (linksOf c) i d
+linkAt-row c w few i d h =
+    let e : linksOf (cardOf (rowWith c w)) ≡ linksOf c = ap linksOf (card-back c w few) in
+    sym (link-of (rowWith c w) i d (rw e h)) ∙ ap (λ (ls : List Link). getD ls i d) e
 
 -- The row of a card whose links name tables.
-pub legible-set : (area : List ℕ) (cards : List (List ℕ)) (q : ℕ) (c : Card) → Legible area cards → q < length cards → length (linksOf c) ≤ linkLimit
-    → ((l : Link) → List·Memᴰ l (linksOf c) → Tabled area (l .place)) → Legible area (set cards q (rowOf c))
-legible-set area cards q c g h few named =
+pub legible-set : (area : List ℕ) (cards : List (List ℕ)) (q : ℕ) (c : Card) (w : List ℕ) → Legible area cards → q < length cards → length (linksOf c) ≤ linkLimit
+    → ((l : Link) → List·Memᴰ l (linksOf c) → Tabled area (l .place)) → Legible area (set cards q (rowWith c w))
+legible-set area cards q c w g h few named =
     let d : Link = noLink in
-    let size : length (set cards q (rowOf c)) ≡ length cards = length-set cards q (rowOf c) in
-    let at-q : getD (set cards q (rowOf c)) q [] ≡ rowOf c = getD-set-same cards q (rowOf c) [] h in
-    let other : (p : ℕ) → (p ≡ q → ⊥) → getD (set cards q (rowOf c)) p [] ≡ getD cards p [] = λ p n. getD-set-other cards q p (rowOf c) [] n in
+    let size : length (set cards q (rowWith c w)) ≡ length cards = length-set cards q (rowWith c w) in
+    let at-q : getD (set cards q (rowWith c w)) q [] ≡ rowWith c w = getD-set-same cards q (rowWith c w) [] h in
+    let other : (p : ℕ) → (p ≡ q → ⊥) → getD (set cards q (rowWith c w)) p [] ≡ getD cards p [] = λ p n. getD-set-other cards q p (rowWith c w) [] n in
     record {
       sized = rw size (g .sized);
       few = rw size (g .few);
       counted = λ p l. cases (eqb p q)
-          (λ e. let pq : p ≡ q = eqb-true p q e in rw (pq, at-q, count-rowOf c) few)
+          (λ e. let pq : p ≡ q = eqb-true p q e in rw (pq, at-q, count-rowWith c w) few)
           (λ e. rw (other p (eqb-false p q e)) (g .counted p (omega arith)));
       rowed = λ p l. cases (eqb p q)
-          (λ e. let pq : p ≡ q = eqb-true p q e in rw (pq, at-q) (good-rowOf c))
+          (λ e. let pq : p ≡ q = eqb-true p q e in rw (pq, at-q) (good-rowWith c w))
           (λ e. rw (other p (eqb-false p q e)) (g .rowed p (omega arith)));
       linked = λ p i l k. cases (eqb p q)
           (λ e. let pq : p ≡ q = eqb-true p q e in
-          let k′ : i < length (linksOf c) = rw (pq, at-q, count-rowOf c) at k in
-          rw (pq, at-q, linkAt-row c few i d k′) (named (getD (linksOf c) i d) (mem-getD (linksOf c) i d k′)))
+          let k′ : i < length (linksOf c) = rw (pq, at-q, count-rowWith c w) at k in
+          rw (pq, at-q, linkAt-row c w few i d k′) (named (getD (linksOf c) i d) (mem-getD (linksOf c) i d k′)))
           (λ e. let o = other p (eqb-false p q e) in rw o (g .linked p i (omega arith) (rw o at k)));
     }
 
@@ -104,7 +105,7 @@ module _ (area : List ℕ) (rows rows′ : List (List ℕ)) where
     };
     roomy = λ i l. let e = h (getD qs i 0) (mem-getD qs i 0 l) in
         let r = b .roomy i l in
-        record { held = r .held; shown = e ∙ r .shown; room = r .room };
+        record { held = r .held; summary = r .summary; shown = e ∙ r .shown; room = r .room };
     spans = same-spans from qs h (b .spans);
   }
 
@@ -148,11 +149,11 @@ module _ (area : List ℕ) (cards : List (List ℕ)) (from : ℕ) (qs : List ℕ
     abbrev more : List Link
     more = b .roomy i h .held ++ (linkTo es r ∷ [])
 
-    pub hung-row : hungRow es r cards ≡ set cards (getD qs i 0) (rowOf (live more))
+    pub hung-row : hungRow es r cards ≡ set cards (getD qs i 0) (rowWith (live more) (b .roomy i h .summary))
     unfolding hungRow
     hung-row =
         rw (on, b .roomy i h .shown)
-        (ap (λ (row : List ℕ). set cards (getD qs i 0) row) (link-added (b .roomy i h .held) (linkTo es r) (b .roomy i h .room)))
+        (ap (λ (row : List ℕ). set cards (getD qs i 0) row) (link-added (b .roomy i h .held) (linkTo es r) (b .roomy i h .summary) (b .roomy i h .room)))
 
     named : (l : Link) → List·Memᴰ l more → Tabled area (l .place)
     named l m =
@@ -161,10 +162,10 @@ module _ (area : List ℕ) (cards : List (List ℕ)) (from : ℕ) (qs : List ℕ
         ⊎-elim
         (λ old. let spot = getD-mem (row .held) d old in
         let few : length (row .held) ≤ linkLimit = omega (arith, row .room) in
-        let count : spot .0 < linkCount (getD cards (getD qs i 0) []) = rw (row .shown, count-rowOf (live (row .held))) (spot .1) in
+        let count : spot .0 < linkCount (getD cards (getD qs i 0) []) = rw (row .shown, count-rowWith (live (row .held)) (row .summary)) (spot .1) in
         let t = b .legible .linked (getD qs i 0) (spot .0) near-card count in
         let here : linkAt (getD cards (getD qs i 0) []) (spot .0) ≡ l =
-        rw (row .shown) (linkAt-row (live (row .held)) few (spot .0) d (spot .1) ∙ spot .2) in
+        rw (row .shown) (linkAt-row (live (row .held)) (row .summary) few (spot .0) d (spot .1) ∙ spot .2) in
         rw here at t)
         (λ new. ⊎-elim (λ e. let p : l .place ≡ r .place = ap (λ (x : Link). x .place) e in rw p tabled) (λ t. absurd (elim t [ ])) (List·Memᴰ·cases-cons new))
         (List·Memᴰ·append-cases (row .held) m)
@@ -172,10 +173,10 @@ module _ (area : List ℕ) (cards : List (List ℕ)) (from : ℕ) (qs : List ℕ
     pub hung-legible : Legible area (hungRow es r cards)
     hung-legible =
         rw hung-row
-        (legible-set area cards (getD qs i 0) (live more) (b .legible) near-card (rw length-append (omega (arith, b .roomy i h .room))) named)
+        (legible-set area cards (getD qs i 0) (live more) (b .roomy i h .summary) (b .legible) near-card (rw length-append (omega (arith, b .roomy i h .room))) named)
 
     hung-same : SameRows area cards (hungRow es r cards) (drop (suc i) qs)
-    hung-same q m = rw hung-row (getD-set-other cards (getD qs i 0) q (rowOf (live more)) [] (behind-other q m))
+    hung-same q m = rw hung-row (getD-set-other cards (getD qs i 0) q (rowWith (live more) (b .roomy i h .summary)) [] (behind-other q m))
 
     -- The tables behind are as they were.
     pub hung-below : Hosts area (hungRow es r cards) (suc (highOf s qs i)) (drop (suc i) qs)
@@ -188,15 +189,16 @@ module _ (area : List ℕ) (cards : List (List ℕ)) (from : ℕ) (qs : List ℕ
 -- ---- the chosen table frozen
 
 module _ (area : List ℕ) (cards : List (List ℕ)) (from : ℕ) (qs : List ℕ) (p : ℕ) (other : (i : ℕ) → i < length qs → getD qs i 0 ≡ p → ⊥) where
-  frozen-same : SameRows area cards (set cards p (rowOf frozen)) qs
+  frozen-same : SameRows area cards (set cards p (frozenRow (getD cards p []))) qs
   frozen-same q m =
       let spot = getD-mem qs 0 m in
-      getD-set-other cards p q (rowOf frozen) [] (λ e. other (spot .0) (spot .1) (spot .2 ∙ e))
+      getD-set-other cards p q (frozenRow (getD cards p [])) [] (λ e. other (spot .0) (spot .1) (spot .2 ∙ e))
 
-  pub frozen-below : p < length cards → Hosts area cards from qs → Hosts area (set cards p (rowOf frozen)) from qs
-  frozen-below h b =
-      same-below area cards (set cards p (rowOf frozen)) from qs
-      (legible-set area cards p frozen (b .legible) h (omega arith) (λ l m. absurd (elim m [ ]))) frozen-same b
+  pub frozen-below : p < length cards → Bare (getD cards p []) → Hosts area cards from qs → Hosts area (set cards p (frozenRow (getD cards p []))) from qs
+  frozen-below h e b =
+      let row : frozenRow (getD cards p []) ≡ rowWith frozen (e .summary) = rw (e .shown) (freeze-row (e .summary)) in
+      same-below area cards (set cards p (frozenRow (getD cards p []))) from qs
+      (rw row (legible-set area cards p frozen (e .summary) (b .legible) h (omega arith) (λ l m. absurd (elim m [ ])))) frozen-same b
 
-  pub frozen-slices : (es : List Entry) → slicesFrom (shownBy area (set cards p (rowOf frozen))) es p from qs ≡ slicesFrom (shownBy area cards) es p from qs
-  frozen-slices es = same-slices area cards (set cards p (rowOf frozen)) es p from qs frozen-same
+  pub frozen-slices : (es : List Entry) → slicesFrom (shownBy area (set cards p (frozenRow (getD cards p [])))) es p from qs ≡ slicesFrom (shownBy area cards) es p from qs
+  frozen-slices es = same-slices area cards (set cards p (frozenRow (getD cards p []))) es p from qs frozen-same

@@ -9,7 +9,7 @@ use Rattle.table.specs.Entry.{Entry}
 use Rattle.ldc.specs.Store.{Link, Store, live, spanEnd}
 use Rattle.ldc.specs.Tidy.{Slice, greatest, responsible, holding}
 use Rattle.ldc.specs.Steps.{linkTo}
-use Rattle.ldc.specs.Layout.{linkLimit, rowOf}
+use Rattle.ldc.specs.Layout.{linkLimit, rowWith}
 use Rattle.ldc.specs.Facts.{Spans}
 use Rattle.book.specs.Pieces.{Words, Rows}
 use Rattle.book.specs.Row.{linkAdded}
@@ -68,8 +68,14 @@ hungRows es (r ∷ rs) rows = hungRows es rs (hungRow es r rows)
 -- The row of a live table with room for one link more.
 pub record Roomy (row : List ℕ) : Type 0 where
   pub held : List Link
-  pub shown : row ≡ rowOf (live held)
+  pub summary : List ℕ
+  pub shown : row ≡ rowWith (live held) summary
   pub room : length held < linkLimit
+
+-- The row of a live table without links.
+pub record Bare (row : List ℕ) : Type 0 where
+  pub summary : List ℕ
+  pub shown : row ≡ rowWith (live []) summary
 
 -- Tables of a level below, all with room for a link; the first of them is responsible from this key on.
 pub record Hosts (area : List ℕ) (cards : List (List ℕ)) (from : ℕ) (items : List ℕ) : Type 0 where
@@ -78,8 +84,9 @@ pub record Hosts (area : List ℕ) (cards : List (List ℕ)) (from : ℕ) (items
   pub roomy : (i : ℕ) → i < length items → Roomy (getD cards (getD items i 0) [])
   pub spans : Spans (shownBy area cards) from items
 
--- A table that can be linked to all tables of a level below: it is none of them.
+-- A table without links that can be linked to all tables of a level below: it is none of them.
 pub record Linkable (area : List ℕ) (cards : List (List ℕ)) (items : List ℕ) (p : ℕ) : Type 0 where
   pub hosts : Hosts area cards 0 items
   pub tabled : Tabled area p
+  pub bare : Bare (getD cards p [])
   pub apart : (i : ℕ) → i < length items → getD items i 0 ≡ p → ⊥

@@ -1,9 +1,9 @@
 // Hanging slices of a chosen table on the tables below that are responsible for one of its entries.
 ghost use mathlib.Core.Path.{_≡_};
+ghost use mathlib.Core.List.{[]};
 ghost use Prim.Native.Nat.{_≤_};
-ghost use lib.ListN.{length, set};
-ghost use Rattle.ldc.specs.Store.{frozen};
-ghost use Rattle.ldc.specs.Layout.{rowOf};
+ghost use lib.ListN.{length, getD, set};
+ghost use Rattle.book.specs.Row.{frozenRow};
 ghost use Rattle.read.specs.Shown.{Tabled, tableIn};
 ghost use Rattle.compact_link.specs.Range.{seen, keeper, highOf, sliceAt, slicesSeen, hungRow, hungRows, Hosts, Linkable};
 use super::range;
@@ -76,9 +76,9 @@ fn hang_all(area: &[u8], cards: &mut [Row], items: &[u16], p: usize)
 pub fn link(area: &[u8], cards: &mut [Row], items: &[u16], p: usize)
     requires { ⌜ Linkable (now area) (now cards) (now items) p ⌝ }
     ensures { λ _. ⌜
-        now (cards .exit) ≡ hungRows (tableIn area p) (slicesSeen area cards items p) (set (now (cards .entry)) p (rowOf frozen))
+        now (cards .exit) ≡ hungRows (tableIn area p) (slicesSeen area cards items p) (set (now (cards .entry)) p (frozenRow (getD (now (cards .entry)) p [])))
         ⌝ }
 {
-    row::set_state(cards, p, row::FROZEN);
+    row::freeze(cards, p);
     hang_all(area, cards, items, p);
 }

@@ -13,7 +13,7 @@ use Rattle.table.specs.Limits.{placeSize}
 use Rattle.table.specs.Table.{countOf, tableBytes}
 use Rattle.table.proofs.Entries.{length-entries}
 use Rattle.ldc.specs.Lists.{isEmpty}
-use Rattle.ldc.specs.Layout.{mostPlaces, lengthWord, lengthIn, itemsIn}
+use Rattle.ldc.specs.Layout.{mostPlaces, lengthWord, lengthIn, itemsIn, tableSummary}
 use Rattle.ldc.specs.Store.{Store, size, level, withLevel}
 use Rattle.ldc.specs.Lent.{Lent, storeOf, lentOf}
 use Rattle.ldc.specs.Place.{placeTaken, written, freePlaces, flushed, serveFlush}
@@ -100,7 +100,7 @@ module _ (m : Lent) (sh : Shape m) (k : Kept m) where
 
     -- The table written, and its place behind the last of level 0.
     module _ (area′ : List ℕ) (cards′ : List (List ℕ)) (head′ : List ℕ) (p : ℕ) (room : leb 1 (freeRows (m .cards)) ≡ true)
-        (t : Takes (m .cards) (m .head) cards′ head′ p) (w : area′ ≡ sets (m .area) (p * placeSize) (m .memory)) where
+        (t : Takes (m .cards) (m .head) cards′ head′ p (tableSummary (m .memory))) (w : area′ ≡ sets (m .area) (p * placeSize) (m .memory)) where
       enough : 1 ≤ freePlaces (storeOf m)
       enough = omega (arith, leb-true 1 (freeRows (m .cards)) room, rows-free)
 
@@ -113,7 +113,7 @@ module _ (m : Lent) (sh : Shape m) (k : Kept m) where
       shown : (p ≡ placeTaken (storeOf m)) × Shows area′ cards′ head′ (written (storeOf m .memory) (storeOf m))
       shown =
           shows-written (storeOf m) (fits-kept m sh k) (storeOf m .memory) enough long (m .area) area′ (m .cards) cards′ (m .head) head′ p
-          (shows-kept m sh k) t (w ∙ ap (sets (m .area) (p * placeSize)) (memory-kept m sh k))
+          (shows-kept m sh k) (rw (memory-kept m sh k) at t) (w ∙ ap (sets (m .area) (p * placeSize)) (memory-kept m sh k))
 
       counted : length cards′ ≡ size (written (storeOf m .memory) (storeOf m))
       counted = ap length (shown .1 .cards) ∙ length-cards (written (storeOf m .memory) (storeOf m)) after

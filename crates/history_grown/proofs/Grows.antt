@@ -12,14 +12,14 @@ use lib.ListN.{length, getD, take, drop, replicate, length-replicate, drop-of-le
 use lib.Seq.{sets, length-sets}
 use Rattle.coding.specs.Number.{Bytes}
 use Rattle.ldc.specs.Rules.{thresholdGood}
-use Rattle.ldc.specs.Lent.{Lent, placesIn, sizesGood, storeOf}
+use Rattle.ldc.specs.Lent.{Lent, sizesGood, storeOf}
 use Rattle.ldc.specs.Run.{Made, Outcome, accepted, make}
 use Rattle.ldc.specs.History.{Call, Event, events, lentAfter, servedIn, newStart, startAfter}
 use Rattle.ldc.proofs.Basics.Cases.{cases}
 use Rattle.ldc.proofs.Demand.Starts.{Starts, new-starts, starts-after}
 use Rattle.book.specs.Made.{made}
 use Rattle.saved_book.specs.Saved.{savedBytes}
-use Rattle.saved_book.specs.Opened.{openedRows, openedOver}
+use Rattle.saved_book.specs.Opened.{openedOver}
 use Rattle.saved_book.specs.Calls.{Saving, saving, saveBook, Opening, opening, openBook, openWith, workingAfter}
 use Rattle.saved_book.proofs.Done.{save-done, open-done}
 use Rattle.saved_history.specs.History.{Act, ran, savedIn, eventsThrough, servedThrough, Carried, AllGiven, Demand3Through}
@@ -48,7 +48,7 @@ with-rows : (working : List (List ℕ)) (m : Lent) (bytes : List ℕ) → length
 unfolding openWith
 with-rows working m bytes e = rw (eq-eqb _ _ e)
 
-rows-zero : (working : List (List ℕ)) (area bytes : List ℕ) → workingAfter accepted working area bytes ≡ openedRows (placesIn area) bytes
+rows-zero : (working : List (List ℕ)) (area bytes : List ℕ) → workingAfter accepted working area bytes ≡ openedOver area bytes .cards
 unfolding workingAfter
 rows-zero working area bytes = refl
 
@@ -146,8 +146,7 @@ module _ (m : Lent) (input ends stops answers served buffer : List ℕ) (working
       lent-late h t first mid mid (omega arith)
       ∙ ap (lentAfter (asOpened h t first mid)) (drop-of-length-le (callsIn p mid) {i = mid} (omega (arith, length-calls p mid)))
 
-  rows-opened : asOpened h t first mid .cards ≡ openedRows (placesIn (onto h t first mid .area)) (savedIn (frontAfter h t first mid) buffer)
-  unfolding openedOver
+  rows-opened : asOpened h t first mid .cards ≡ openedOver (onto h t first mid .area) (savedIn (frontAfter h t first mid) buffer) .cards
   rows-opened =
       ap (λ (x : Opening). x .lent .cards) (open-done (onto h t first mid) (savedIn (frontAfter h t first mid) buffer) (both-zero .1))
 
@@ -156,8 +155,8 @@ module _ (m : Lent) (input ends stops answers served buffer : List ℕ) (working
       ws
       ∙ ap (λ (k : ℕ). workingAfter k working (withFront m₂ m .area) (take written buffer₂)) opened-zero
       ∙ rows-zero working (withFront m₂ m .area) (take written buffer₂)
-      ∙ ap (λ (x : Lent). openedRows (placesIn (withFront x m .area)) (take written buffer₂)) first-left
-      ∙ ap (openedRows (placesIn (onto h t first mid .area))) same-bytes
+      ∙ ap (λ (x : Lent). openedOver (withFront x m .area) (take written buffer₂) .cards) first-left
+      ∙ ap (λ (b : List ℕ). openedOver (onto h t first mid .area) b .cards) same-bytes
       ∙ sym rows-opened
       ∙ ap (λ (x : Lent). x .cards) (sym left-mid)
 

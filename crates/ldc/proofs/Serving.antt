@@ -8,7 +8,7 @@
 --   Splits       the requests of a list of bytes have bytes for bodies
 --   Events       serving a list, as events read back from the answer buffer
 --   Runs         runs over lent memory, and histories of them
---   Alike, AlikeReads, AlikeSteps, AlikeServe   stores that differ in free places' bytes serve alike
+--   Alike, AlikeReads, AlikeProbe, AlikeSteps, AlikeServe   stores that differ in free places' bytes serve alike
 pub mod ServeCases
 pub mod Keeps
 pub mod KeepsWhole
@@ -20,5 +20,6 @@ pub mod Events
 pub mod Runs
 pub mod Alike
 pub mod AlikeReads
+pub mod AlikeProbe
 pub mod AlikeSteps
 pub mod AlikeServe

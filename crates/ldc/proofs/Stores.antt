@@ -14,6 +14,8 @@
 --   Spans        what is read of a table lies in its span; spans rise
 --   Order        the read order in its parts
 --   Lower        lower-lying levels: nothing is read there under a key that no span holds
+--   Asked        the tables asked about a key give what the read order gives
+--   Opened       those opened give what those asked give, and how many they are
 --   ReadOrder    what is read is valid
 --   TakenOut     a level with one table taken out and read after it
 --   New          a new store is sound
@@ -33,6 +35,8 @@ pub mod Release
 pub mod Spans
 pub mod Order
 pub mod Lower
+pub mod Asked
+pub mod Opened
 pub mod ReadOrder
 pub mod TakenOut
 pub mod New

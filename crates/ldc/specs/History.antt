@@ -13,10 +13,11 @@ use Rattle.table.specs.Search.{find}
 use Rattle.ldc.specs.Lists.{any, keep}
 use Rattle.ldc.specs.Store.{Link, Store, newStore, card, links, isFrozen, bytesAt, within}
 use Rattle.ldc.specs.Lent.{Lent, storeOf, placesIn, broken}
-use Rattle.ldc.specs.Request.{putKind, deleteKind, lookUpKind, scanKind, tidyKind, doneResult, noValue, keySize}
+use Rattle.ldc.specs.Request.{putKind, deleteKind, lookUpKind, scanKind, tidyKind, probeKind, doneResult, noValue, keySize}
 use Rattle.ldc.specs.Request.{Request, replyBytes, keyIn, highIn, valueIn}
 use Rattle.ldc.specs.Memtable.{put}
 use Rattle.ldc.specs.Read.{valueOf, scanBody}
+use Rattle.ldc.specs.Probe.{probeBody}
 use Rattle.ldc.specs.Tidy.{Slice, Step, idle, refused, moved, linked, merged, tidyStep}
 use Rattle.ldc.specs.Steps.{linkTo}
 use Rattle.ldc.specs.Serve.{serve}
@@ -83,23 +84,37 @@ abbrev pub mapLookUp : Option (List ℕ) → List ℕ
 mapLookUp (some v) = replyBytes lookUpKind doneResult v
 mapLookUp none = replyBytes lookUpKind noValue []
 
--- The reply that the map gives: to look-ups and scans of the right length, low not above high. It says nothing of other requests.
+-- A reply to a probe without its two counts, which no map knows: length, kind, result and found (8 bytes), then what stands behind the counts (6).
+unfoldable pub withoutCounts : List ℕ → List ℕ
+withoutCounts reply = take 8 reply ++ drop 14 reply
+
+-- What of a reply is compared with the map's: all of it, but of a reply to a probe not the counts.
+unfoldable pub compared : Request → List ℕ → List ℕ
+compared r reply = cond (eqb (r .kind) probeKind) (withoutCounts reply) reply
+
+-- What the map gives of a reply to a probe: all but the two counts, so found and the value.
+abbrev pub mapProbe : Option (List ℕ) → List ℕ
+mapProbe v = withoutCounts (replyBytes probeKind doneResult (probeBody v 0 0))
+
+-- The reply that the map gives: to look-ups, probes and scans of the right length, low not above high. It says nothing of other requests.
 unfoldable pub mapReply : List Entry → Request → Option (List ℕ)
 mapReply m r =
     cond (eqb (r .kind) lookUpKind && eqb (length (r .body)) keySize)
     (some (mapLookUp (valueOf (find (keyIn (r .body)) m))))
+    (cond (eqb (r .kind) probeKind && eqb (length (r .body)) keySize)
+    (some (mapProbe (valueOf (find (keyIn (r .body)) m))))
     (cond (eqb (r .kind) scanKind && (eqb (length (r .body)) (2 * keySize) && leb (keyIn (r .body)) (highIn (r .body))))
     (some (replyBytes scanKind doneResult (scanBody (within (keyIn (r .body)) (highIn (r .body)) m))))
-    none)
+    none))
 
 abbrev pub Agrees : Option (List ℕ) → List ℕ → Type 0
 Agrees none reply = Unit {0}
 Agrees (some right) reply = reply ≡ right
 
--- Every reply is the one that the map then gives, byte for byte.
+-- Every reply is the one that the map then gives, byte for byte, but for the counts of a probe, which are those that the rules give.
 abbrev pub Answered : List Entry → List Event → Type 0
 Answered m [] = Unit {0}
-Answered m (e ∷ es) = Agrees (mapReply m (e .request)) (e .reply) × Answered (fed e m) es
+Answered m (e ∷ es) = Agrees (mapReply m (e .request)) (compared (e .request) (e .reply)) × Answered (fed e m) es
 
 -- ---- the slice list
 
@@ -173,7 +188,7 @@ linkOf u = linkTo (entries (u .held)) (u .slice)
 
 -- The claim about the replies and the memory at the end of a history from a start, given the slice list: `m` is what is lent at the end.
 pub record Holds (x : Start) (es : List Event) (us : List Unmerged) (m : Lent) : Type 0 where
-  -- look-ups and scans answer as the latest-write map
+  -- look-ups, probes and scans answer as the latest-write map
   pub answered : Answered (x .values) es
   -- the memory is that of a sound store: every word of it is where and what the rules allow
   pub sound : broken m ≡ []

@@ -6,8 +6,9 @@ use mathlib.Core.Bool.{Bool, cond, _&&_, _||_}
 use mathlib.Core.Option.{Option, some, none}
 use lib.Dec.{eqb}
 use lib.ListN.{length, getD, take, drop}
-use Rattle.table.specs.Table.{zeros}
-use Rattle.ldc.specs.Store.{Link, Card, free, live, frozen, linksOf}
+use Rattle.table.specs.Table.{zeros, entries}
+use Rattle.summary.specs.Summary.{summaryWords, summaryOf, keysOf, wordsOf}
+use Rattle.ldc.specs.Store.{Link, Card, free, live, frozen, linksOf, isFree}
 
 -- ---- how many
 
@@ -25,17 +26,20 @@ levelCount = 4
 abbrev pub linkLimit : ℕ
 linkLimit = 8
 
--- ---- a row: state, link count, then the words of each link
+-- ---- a row: state, link count, then the words of each link, and those of the summary
 
--- The words before the links, those of one link, and those of a row.
+-- The words before the links, those of one link, where the summary's words begin, and those of a row.
 abbrev pub rowHead : ℕ
 rowHead = 2
 
 abbrev pub linkSize : ℕ
 linkSize = 4
 
+abbrev pub summaryStart : ℕ
+summaryStart = rowHead + linkSize * linkLimit
+
 abbrev pub rowSize : ℕ
-rowSize = rowHead + linkSize * linkLimit
+rowSize = summaryStart + summaryWords
 
 -- The states of a place; any other state word says free, too.
 abbrev pub freeState : ℕ
@@ -85,13 +89,38 @@ abbrev pub linkWords : List Link → List ℕ
 linkWords [] = []
 linkWords (l ∷ ls) = l .place ∷ l .low ∷ l .high ∷ l .number ∷ linkWords ls
 
--- The row of a card; words not in use are zero.
-unfoldable pub rowOf : Card → List ℕ
-rowOf c = stateWord c ∷ length (linksOf c) ∷ linkWords (linksOf c) ++ zeros (linkSize * linkLimit - linkSize * length (linksOf c))
+-- The words of a card's summary in its row.
+abbrev pub summaryIn : List ℕ → List ℕ
+summaryIn row = drop summaryStart row
 
--- The words of a row behind its links.
-abbrev pub rowRest : List ℕ → List ℕ
-rowRest row = drop (linkStart (linkCount row)) row
+-- The summary of the table that a place's bytes show, in words.
+unfoldable pub tableSummary : (bytes : List ℕ) → List ℕ
+tableSummary bytes = wordsOf (summaryOf (keysOf (entries bytes)))
+
+-- The summary on the card of a place with these bytes: a free place has none.
+abbrev pub summaryOn : Card → (bytes : List ℕ) → List ℕ
+summaryOn free bytes = zeros summaryWords
+summaryOn (live ls) bytes = tableSummary bytes
+summaryOn frozen bytes = tableSummary bytes
+
+-- The row of a card with this summary; words not in use are zero.
+unfoldable pub rowWith : Card → (summary : List ℕ) → List ℕ
+rowWith c summary =
+    stateWord c ∷ length (linksOf c) ∷ linkWords (linksOf c)
+    ++ (zeros (linkSize * linkLimit - linkSize * length (linksOf c)) ++ summary)
+
+-- The row of the card of a place with these bytes, and the rows of all.
+unfoldable pub rowOf : Card → (bytes : List ℕ) → List ℕ
+rowOf c bytes = rowWith c (summaryOn c bytes)
+
+abbrev pub rowsOf : List Card → (places : List (List ℕ)) → List (List ℕ)
+rowsOf [] places = []
+rowsOf (c ∷ cs) [] = rowOf c [] ∷ rowsOf cs []
+rowsOf (c ∷ cs) (bytes ∷ places) = rowOf c bytes ∷ rowsOf cs places
+
+-- The words of a row that are not in use: those behind its links, and those of the summary where the place is free.
+unfoldable pub rowRest : List ℕ → List ℕ
+rowRest row = drop (linkStart (linkCount row)) (take summaryStart row) ++ cond (isFree (cardOf row)) (summaryIn row) []
 
 -- ---- the head: threshold, cursor, flag and key of the marks of levels 1 and 2, the lengths of lists 0 to 3
 

@@ -8,9 +8,11 @@ use lib.ListN.{length, getD, take, drop}
 use Rattle.table.specs.Limits.{placeSize}
 use Rattle.table.specs.Table.{entries, tableBytes, isMemory, allZero, zeros}
 use Rattle.ldc.specs.Lists.{all, flat, allFrom}
-use Rattle.ldc.specs.Store.{Store}
+use Rattle.summary.specs.Summary.{sameWords}
+use Rattle.ldc.specs.Store.{Store, isFree, bytesAt}
 use Rattle.ldc.specs.Rules.{ruleA, ruleB, ruleC, ruleE, ruleF, ruleG}
-use Rattle.ldc.specs.Layout.{fewestPlaces, mostPlaces, levelCount, liveState, frozenState, stateOf, linkCount, rowRest, cardOf, rowOf}
+use Rattle.ldc.specs.Layout.{fewestPlaces, mostPlaces, levelCount, liveState, frozenState, stateOf, linkCount, cardOf}
+use Rattle.ldc.specs.Layout.{summaryIn, tableSummary, rowsOf, rowRest}
 use Rattle.ldc.specs.Layout.{thresholdIn, cursorIn, lengthIn, marksOf, markWords, marksGood, partIn, itemsIn}
 
 -- Bytes of all places; a row of words for each card; the four lists, one after the other; the words of the head; the memory table's bytes.
@@ -70,7 +72,7 @@ storeOf m = record {
 unfoldable pub lentOf : Store → Lent
 lentOf s = record {
   area = flat (s .places);
-  cards = map rowOf (s .cards);
+  cards = rowsOf (s .cards) (s .places);
   lists = flat (map (λ ps. ps ++ zeros (length (s .places) - length ps)) (s .levels));
   head = s .threshold ∷ s .cursor ∷ flat (map markWords (s .marks)) ++ map (λ ps. length ps) (s .levels);
   memory = tableBytes (s .memory);
@@ -86,6 +88,13 @@ unfoldable pub numbersGood : Lent → Bool
 numbersGood m =
     all rowGood (m .cards)
     && allFrom levelCount 0 (λ n. leb (listLength m n) (placesIn (m .area)))
+
+-- What rule C says of numbers: the bits of live and frozen cards are right.
+unfoldable pub summaryGood : (row bytes : List ℕ) → Bool
+summaryGood row bytes = isFree (cardOf row) || sameWords (summaryIn row) (tableSummary bytes)
+
+unfoldable pub summariesGood : Lent → Bool
+summariesGood m = allFrom (length (m .cards)) 0 (λ p. summaryGood (getD (m .cards) p []) (bytesAt (storeOf m) p))
 
 -- What rule E says of numbers: at most T links a table.
 unfoldable pub countsGood : Lent → Bool
@@ -103,8 +112,11 @@ unusedZero m =
 unfoldable pub keptB : Lent → Bool
 keptB m = numbersGood m && ruleB (storeOf m)
 
+unfoldable pub keptC : Lent → Bool
+keptC m = ruleC (storeOf m) && summariesGood m
+
 unfoldable pub presupposed : Lent → Bool
-presupposed m = keptB m && ruleC (storeOf m)
+presupposed m = keptB m && keptC m
 
 unfoldable pub keptE : Lent → Bool
 keptE m = not (presupposed m) || (countsGood m && ruleE (storeOf m))
@@ -145,7 +157,7 @@ unfoldable pub broken : Lent → List ℕ
 broken m =
     letter (ruleA (storeOf m)) letterA
     ++ (letter (keptB m) letterB
-    ++ (letter (ruleC (storeOf m)) letterC
+    ++ (letter (keptC m) letterC
     ++ (letter (isMemory (m .memory)) letterD
     ++ (letter (keptE m) letterE
     ++ (letter (keptF m) letterF

@@ -8,6 +8,7 @@
 --   Memtable   put and delete
 --   Place      the place taken, tables written, flush
 --   Read       the read order, look-up, scan, report
+--   Probe      which tables a look-up opens, and the request that tells of them (document 02, note 6)
 --   Tidy       which step is due: due merge, level, choice, ranges; the step is named here
 --   Steps      the named step is done: move, link, merge
 --   Serve      serving one request
@@ -24,6 +25,7 @@ pub mod Request
 pub mod Memtable
 pub mod Place
 pub mod Read
+pub mod Probe
 pub mod Tidy
 pub mod Steps
 pub mod Serve

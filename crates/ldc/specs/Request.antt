@@ -32,6 +32,9 @@ tidyKind = 6
 abbrev pub reportKind : ℕ
 reportKind = 7
 
+abbrev pub probeKind : ℕ
+probeKind = 8
+
 -- The results: done; refused by 16 to 20; done, with 64 or 65 for nothing found or nothing to do.
 abbrev pub doneResult : ℕ
 doneResult = 0
@@ -91,13 +94,13 @@ unfoldable pub replyOf : Request → Served → List ℕ
 replyOf r v = replyBytes (r .kind) (v .result) (v .body)
 
 unfoldable pub known : (kind : ℕ) → Bool
-known kind = leb putKind kind && leb kind reportKind
+known kind = leb putKind kind && leb kind probeKind
 
--- The body that each kind has: key and value, key, key, low and high key, none.
+-- The body that each kind has: put key and value; delete, look-up and probe a key; scan low and high key; the others none.
 unfoldable pub bodyGood : (kind length : ℕ) → Bool
 bodyGood kind len =
     cond (eqb kind putKind) (leb keySize len && leb len (keySize + valueLimit))
-    (cond (eqb kind deleteKind || eqb kind lookUpKind) (eqb len keySize)
+    (cond (eqb kind deleteKind || (eqb kind lookUpKind || eqb kind probeKind)) (eqb len keySize)
     (cond (eqb kind scanKind) (eqb len (2 * keySize)) (eqb len 0)))
 
 -- The first and the second key in a body, and the value behind the first.

@@ -1,23 +1,20 @@
--- What a hit says: found in a table, the first of two, and one turn of the walks that go newest first.
-use Prim.Native.Nat.{ℕ, zero, suc, _-_, _≤_, _<_}
+-- What a hit says: found in a table, and the first of two.
+use Prim.Native.Nat.{ℕ}
 use mathlib.Core.Path.{_≡_, sym, _∙_, ap}
-use mathlib.Core.Bool.{true, false, not, _&&_}
-use mathlib.Core.List.{List, [], _∷_, map, reverse, reverse-append}
+use mathlib.Core.Bool.{not}
+use mathlib.Core.List.{List}
 use mathlib.Core.Option.{Option, some, none}
 use native.Mathlib.Omega.{arith}
-use lib.Dec.{leb, eqb}
-use lib.ListN.{length, getD, take}
-use lib.Seq.{take-suc}
+use lib.Dec.{eqb}
 use Rattle.table.specs.Entry.{Entry, entryOf, entryAt, kindAt}
 use Rattle.table.specs.Table.{entries, placeOf}
 use Rattle.table.specs.Search.{find, findIn, shown}
 use Rattle.table.specs.declared.search.Found.the-variants as found
 use Rattle.table.proofs.Found.{shown-find, find-stands}
 use Rattle.table.proofs.Taken.{seated-of}
-use Rattle.ldc.specs.Lists.{flat, isSome}
-use Rattle.ldc.specs.Store.{within}
+use Rattle.ldc.specs.Lists.{isSome}
 use Rattle.ldc.proofs.Basics.Cases.{cases}
-use Rattle.ldc.proofs.Entries.Finds.{orElse, find-append, find-within}
+use Rattle.ldc.proofs.Entries.Finds.{orElse}
 use Rattle.read.specs.Shown.{Tabled}
 use Rattle.read.specs.Found.{hitEntry, Hits}
 use Rattle.read.specs.declared.found.Hit.{Hit}
@@ -59,14 +56,6 @@ pub value-test : (s : List ℕ) (at : ℕ) → not (eqb (kindAt s at) 2) ≡ isS
 unfolding entryAt entryOf
 value-test s at = cases (eqb (kindAt s at) 2) (λ q. rw q) (λ q. rw q)
 
--- ---- in a slice
-
-pub slice-inside : (k low high : ℕ) (es : List Entry) → (leb low k && leb k high) ≡ true → find k (within low high es) ≡ find k es
-slice-inside k low high es h = find-within k low high es ∙ rw h
-
-pub slice-outside : (k low high : ℕ) (es : List Entry) → (leb low k && leb k high) ≡ false → find k (within low high es) ≡ none
-slice-outside k low high es h = find-within k low high es ∙ rw h
-
 -- ---- the first of two
 
 -- What was met decides; what was missed leaves it to the rest.
@@ -77,19 +66,3 @@ met area a b h p at e t =
 
 pub passed : (area : List ℕ) (a b : Option Entry) (h : Hit) → h ≡ Nothing → Hits area a h → orElse a b ≡ b
 passed area a b h e t = let none : a ≡ none = sym (t .shown) ∙ ap (hitEntry area) e in rw none
-
--- ---- newest first
-
-pub newest-turn {ℓ} : {A : Type ℓ} (f : A → List Entry) (xs : List A) (i : ℕ) (d : A) (k : ℕ) → 0 < i → i ≤ length xs
-    → find k (flat (map f (reverse (take i xs))))
-    ≡ orElse (find k (f (getD xs (i - 1) d))) (find k (flat (map f (reverse (take (i - 1) xs)))))
-newest-turn f xs zero d k h hi = absurd (omega arith)
-newest-turn f xs (suc i) d k h hi =
-    let e : suc i - 1 ≡ i = omega arith in
-    let split : reverse (take (suc i) xs) ≡ getD xs i d ∷ reverse (take i xs) =
-    ap reverse (take-suc xs i d (omega arith)) ∙ reverse-append (take i xs) (getD xs i d ∷ []) in
-    rw (e, split) (find-append k (f (getD xs i d)) (flat (map f (reverse (take i xs)))))
-
-pub newest-end {ℓ} : {A : Type ℓ} (f : A → List Entry) (xs : List A) (i k : ℕ) → i ≤ 0 → find k (flat (map f (reverse (take i xs)))) ≡ none
-unfolding find
-newest-end f xs i k h = let e : i ≡ 0 = omega arith in rw e

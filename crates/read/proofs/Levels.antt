@@ -2,14 +2,13 @@
 use Prim.Native.Nat.{ℕ, suc, _≤_, _<_}
 use mathlib.Core.Path.{_≡_, refl, sym, _∙_, ap}
 use mathlib.Core.Bool.{false, true≢false}
-use mathlib.Core.List.{List, [], _∷_, _++_, map, reverse, append-nil, List·Memᴰ}
+use mathlib.Core.List.{List, [], _∷_, _++_, map, reverse, List·Memᴰ}
 use native.Mathlib.Omega.{arith}
 use borrow.Author.Tests.{ltb-true, ltb-false}
 use lib.Dec.{ltb}
 use lib.ListN.{length, getD}
 use Rattle.coding.specs.Number.{Bytes}
 use Rattle.table.specs.Limits.{placeSize}
-use Rattle.table.specs.Entry.{Entry}
 use Rattle.table.specs.Table.{entries, isMemory, placeOf}
 use Rattle.table.proofs.Tests.{cases}
 use Rattle.table.proofs.Encode.{shows-valid}
@@ -27,13 +26,12 @@ use Rattle.ldc.proofs.Basics.ListLaws.{mem-getD, length-parts}
 use Rattle.ldc.proofs.Lent.Round.{chop-parts}
 use Rattle.ldc.proofs.Stores.Sound.{Sound}
 use Rattle.ldc.proofs.Stores.SoundRules.{beyond, below-size, sound-of}
-use Rattle.ldc.proofs.Stores.Spans.{flat-append}
-use Rattle.ldc.specs.Layout.{linkCount, linkAt, itemsIn, levelCount}
+use Rattle.ldc.specs.Layout.{linkAt, itemsIn, levelCount}
 use Rattle.book.proofs.Rows.{link-of, count-of, noLink}
 use Rattle.book.specs.Rows.{shownBy}
-use Rattle.read.specs.Shown.{Tabled, Legible, Listed, Rising, Kept}
-use Rattle.read.specs.Look.{Levels, lowerIn, tablesIn}
-use Rattle.read.proofs.Pieces.{bytes-shown, links-shown, length-fits, row-good, row-threshold, row-eight, level-items}
+use Rattle.read.specs.Shown.{Tabled, Legible, Summed, LinksSummed, ListSummed, Rising, Kept}
+use Rattle.read.specs.Look.{Levels}
+use Rattle.read.proofs.Pieces.{bytes-shown, links-shown, card-shown, length-fits, row-good, row-threshold, row-eight, row-summary, level-items}
 
 -- Beyond the last card there are no links.
 far-links : (s : Store) (p : ℕ) → size s ≤ p → links s p ≡ []
@@ -93,15 +91,22 @@ module _ (m : Lent) (k : Kept m) where
           good = rw (← (bytes-shown m (z .area) p)) (sound-kept .tables p h .good);
         }
 
-    -- The items of a level's list name tables.
-    listed : (n : ℕ) → n < levelCount → Listed (m .area) (itemsIn (length (m .cards)) (m .lists) (m .head) n)
+    -- What is not free holds a table, with its summary on the card.
+    summed : (p : ℕ) → isFree (card (storeOf m) p) ≡ false → Summed (m .area) (m .cards) p
+    summed p h =
+        let near : p < length (m .cards) = omega (arith, below-size (storeOf m) p (λ e. true≢false (rw e at h)), size-storeOf m (k .sizes), sizes m (k .sizes) .cards) in
+        record { tabled = tabled p h; summary = row-summary m k p near (rw (card-shown m p near) at h) }
+
+    -- Such are the items of a level's list,
+    listed : (n : ℕ) → n < levelCount → ListSummed (m .area) (m .cards) (itemsIn (length (m .cards)) (m .lists) (m .head) n)
     listed n h i hi =
         let ps = itemsIn (length (m .cards)) (m .lists) (m .head) n in
         let p : ℕ = getD ps i 0 in
         let member : List·Memᴰ p (level (storeOf m) n) = rw (level-items m k n h) (mem-getD ps i 0 hi) in
-        tabled p (live-not-free (card (storeOf m) p) (listed-live (storeOf m) sound-kept n p member))
+        summed p (live-not-free (card (storeOf m) p) (listed-live (storeOf m) sound-kept n p member))
 
-    linked : (p i : ℕ) → p < length (m .cards) → i < linkCount (getD (m .cards) p []) → Tabled (m .area) (linkAt (getD (m .cards) p []) i .place)
+    -- and the places that links name.
+    linked : LinksSummed (m .area) (m .cards)
     linked p i hp hi =
         let d : Link = noLink in
         let n = count-of (getD (m .cards) p []) (row-good m k p hp) (row-eight m k p hp) in
@@ -110,7 +115,7 @@ module _ (m : Lent) (k : Kept m) where
         let member : List·Memᴰ (getD (links (storeOf m) p) i d) (links (storeOf m) p) =
         mem-getD (links (storeOf m) p) i d (rw (links-shown m p) (omega arith)) in
         let l : Link = getD (links (storeOf m) p) i d in
-        rw (← here) (tabled (l .place) (frozen-not-free (card (storeOf m) (l .place)) (link-frozen (storeOf m) sound-kept p l member)))
+        rw (← here) (summed (l .place) (frozen-not-free (card (storeOf m) (l .place)) (link-frozen (storeOf m) sound-kept p l member)))
 
     legible : Legible (m .area) (m .cards)
     legible =
@@ -120,13 +125,13 @@ module _ (m : Lent) (k : Kept m) where
           few = omega arith;
           counted = row-eight m k;
           rowed = row-good m k;
-          linked = linked;
+          linked = λ p i hp hi. linked p i hp hi .tabled;
         }
 
     rising : (n : ℕ) → n < 3 → Rising (m .area) (m .cards) (itemsIn (length (m .cards)) (m .lists) (m .head) (suc n))
     rising n h =
         record {
-          listed = listed (suc n) (omega arith);
+          listed = λ i hi. listed (suc n) (omega arith) i hi .tabled;
           rises =
               spansRise-same (storeOf m) (shownBy (m .area) (m .cards)) (itemsIn (length (m .cards)) (m .lists) (m .head) (suc n))
               (λ p x. (same-links m p, same-bytes m p))
@@ -140,7 +145,9 @@ module _ (m : Lent) (k : Kept m) where
           legible = legible;
           sized = rw (z .cards) (z .lists);
           lengths = λ n h. rw (z .cards) (length-fits m k n h);
-          newest = listed 0 (omega arith);
+          newest = λ i hi. listed 0 (omega arith) i hi .tabled;
+          summed = listed;
+          linked = linked;
           rising = rising;
         }
 
@@ -158,7 +165,7 @@ module _ (m : Lent) (k : Kept m) where
         elim ps [ [] ↦ refl | p ∷ (qs → ih) ↦ rw (sym (same-sources m p), ih) ] in
         rw (level-items m k n h) (same (itemsIn (length (m .cards)) (m .lists) (m .head) n))
 
-    -- Source by source, and end to end.
+    -- Source by source.
     pub order-sources : readOrder (storeOf m)
         ≡ entries (m .memory)
         ∷ map (λ p. entries (placeOf (m .area) p)) (reverse (itemsIn (length (m .cards)) (m .lists) (m .head) 0))
@@ -173,14 +180,3 @@ module _ (m : Lent) (k : Kept m) where
         newest-same (reverse (level (storeOf m) 0))
         ∙ ap (λ (ps : List ℕ). map (λ p. entries (placeOf (m .area) p)) (reverse ps)) (level-items m k 0 (omega arith)) in
         cc (lower-same 1 (omega arith), lower-same 2 (omega arith), lower-same 3 (omega arith))
-
-    pub order-read : flat (readOrder (storeOf m)) ≡ entries (m .memory) ++ tablesIn (m .area) (m .cards) (m .lists) (m .head)
-    unfolding tablesIn lowerIn
-    order-read =
-        let s = shownBy (m .area) (m .cards) in
-        let items : ℕ → List ℕ = itemsIn (length (m .cards)) (m .lists) (m .head) in
-        let z : List (List Entry) = map (λ p. entries (placeOf (m .area) p)) (reverse (items 0)) in
-        let b : List (List Entry) = flat (map (sources s) (items 1)) in
-        let c : List (List Entry) = flat (map (sources s) (items 2)) in
-        let d : List (List Entry) = flat (map (sources s) (items 3)) in
-        ap flat order-sources ∙ rw (flat-append z (b ++ (c ++ d)), flat-append b (c ++ d), flat-append c d, append-nil)

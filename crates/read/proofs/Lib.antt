@@ -1,11 +1,11 @@
 -- The laws of `read`.
 --   Pieces    lists, rows and places of lent memory and of the store that it shows
 --   Shows     what legible area and cards show
---   Hits      what was found, and one turn of the walks that go newest first
+--   Hits      what was found
 --   Rank      the search of a level
 --   Holds     whether a span of a level holds a key
 --   Levels    the levels of kept memory, and the read order
---   Walks     the walk over levels 1 to 3, and values
+--   Walks     how long a level's list is, and values
 --   Spots     where the answer of a look-up stands, and its reply
 pub mod Pieces
 pub mod Shows

@@ -1,7 +1,7 @@
 -- The pieces of lent memory that is kept, and of the store that it shows: lists, rows and places.
 use Prim.Native.Nat.{ℕ, zero, suc, _*_, _≤_, _<_}
 use mathlib.Core.Path.{_≡_, refl, _∙_}
-use mathlib.Core.Bool.{true}
+use mathlib.Core.Bool.{true, false}
 use mathlib.Core.List.{[], map}
 use native.Mathlib.Omega.{arith}
 use borrow.Author.Tests.{leb-true, ltb-true, ltb-false}
@@ -10,15 +10,16 @@ use lib.ListN.{length, getD, drop, length-map, List·getD-eq-default, drop-of-le
 use Rattle.table.specs.Limits.{placeSize}
 use Rattle.table.specs.Table.{placeOf}
 use Rattle.table.proofs.Tests.{and-parts, cases}
+use Rattle.summary.proofs.Same.{same-true}
 use Rattle.ldc.specs.Lists.{all}
-use Rattle.ldc.specs.Store.{free, card, links, linksOf, bytesAt, level}
-use Rattle.ldc.specs.Lent.{Lent, placesIn, listLength, levelOf, storeOf, rowGood, numbersGood, countsGood}
+use Rattle.ldc.specs.Store.{free, card, links, linksOf, isFree, bytesAt, level}
+use Rattle.ldc.specs.Lent.{Lent, placesIn, listLength, levelOf, storeOf, rowGood, numbersGood, summaryGood, summariesGood, countsGood}
 use Rattle.ldc.proofs.Basics.ListLaws.{all-at, below-at, mem-getD, getD-map, parts, length-parts, getD-parts}
 use Rattle.ldc.proofs.Lent.Round.{chop-parts}
 use Rattle.ldc.proofs.Lent.Rules.{Unbroken, unbroken}
 use Rattle.ldc.proofs.Lent.Shows.{sizes}
 use Rattle.ldc.proofs.Stores.SoundRules.{threshold-eight}
-use Rattle.ldc.specs.Layout.{linkLimit, stateOf, linkCount, cardOf, itemsIn, levelCount, thresholdIn}
+use Rattle.ldc.specs.Layout.{linkLimit, stateOf, linkCount, cardOf, summaryIn, tableSummary, itemsIn, levelCount, thresholdIn}
 use Rattle.read.proofs.Walks.{items-long}
 use Rattle.read.specs.Shown.{Kept}
 
@@ -46,6 +47,10 @@ links-shown m p =
     (λ q. rw (getD-map cardOf (m .cards) p [] free (ltb-true _ _ q)))
     (λ q. let far : length (m .cards) ≤ p = ltb-false _ _ q in
     rw (List·getD-eq-default (map cardOf (m .cards)) free {n = p} (omega (arith, length-map (m .cards) cardOf)), List·getD-eq-default (m .cards) [] {n = p} far))
+
+pub card-shown : (m : Lent) (p : ℕ) → p < length (m .cards) → card (storeOf m) p ≡ cardOf (getD (m .cards) p [])
+unfolding card storeOf
+card-shown m p h = getD-map cardOf (m .cards) p [] free h
 
 -- ---- lists and rows of kept memory
 
@@ -78,6 +83,14 @@ module _ (m : Lent) (k : Kept m) where
   pub row-eight : (p : ℕ) → p < length (m .cards) → linkCount (getD (m .cards) p []) ≤ linkLimit
   unfolding storeOf
   row-eight p h = omega (arith, row-threshold p h, threshold-eight (storeOf m) (whole .store .a))
+
+  -- The summary of a card that is not free is its table's.
+  pub row-summary : (p : ℕ) → p < length (m .cards) → isFree (cardOf (getD (m .cards) p [])) ≡ false
+      → summaryIn (getD (m .cards) p []) ≡ tableSummary (placeOf (m .area) p)
+  unfolding summariesGood summaryGood
+  row-summary p h used =
+      let right = below-at (length (m .cards)) (λ q. summaryGood (getD (m .cards) q []) (bytesAt (storeOf m) q)) (whole .summaries) p h in
+      same-true _ _ (rw (used, bytes-shown m (sizes m (k .sizes) .area) p) at right)
 
   pub level-items : (n : ℕ) → n < levelCount → level (storeOf m) n ≡ itemsIn (length (m .cards)) (m .lists) (m .head) n
   level-items n h = level-part m n h ∙ rw (sizes m (k .sizes) .cards)

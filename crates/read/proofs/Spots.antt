@@ -4,30 +4,17 @@ use mathlib.Core.Path.{_≡_, sym, _∙_, ap}
 use mathlib.Core.Bool.{true}
 use mathlib.Core.List.{List, _++_}
 use mathlib.Core.Option.{some, none}
-use lib.ListN.{length}
 use Rattle.table.specs.Entry.{Entry, entryAt}
 use Rattle.table.specs.Table.{entries, isMemory}
 use Rattle.table.specs.Search.{find, findIn, shown}
 use Rattle.table.specs.declared.search.Found.the-variants as found
 use Rattle.table.proofs.Found.{shown-find, find-stands}
 use Rattle.table.proofs.Taken.{seated-of}
-use Rattle.ldc.specs.Layout.{itemsIn}
-use Rattle.ldc.proofs.Entries.Finds.{orElse, find-append}
-use Rattle.read.specs.Shown.{newestIn}
+use Rattle.ldc.proofs.Entries.Finds.{find-append}
 use Rattle.read.specs.Found.{Hits}
 use Rattle.read.specs.declared.found.Hit.the-variants as hit
-use Rattle.read.specs.Look.{lowerIn, tablesIn}
 use Rattle.read.specs.Found.{Spots}
 use Rattle.read.specs.declared.found.Spot.the-variants.{Memory, Place, Nothing}
-
--- ---- all tables
-
-pub tables-parts : (area : List ℕ) (cards : List (List ℕ)) (lists head : List ℕ) (k : ℕ)
-    → find k (tablesIn area cards lists head)
-    ≡ orElse (find k (newestIn area (itemsIn (length cards) lists head 0))) (find k (lowerIn area cards lists head 3 1))
-unfolding tablesIn
-tables-parts area cards lists head k =
-    find-append k (newestIn area (itemsIn (length cards) lists head 0)) (lowerIn area cards lists head 3 1)
 
 -- ---- memory, then tables
 

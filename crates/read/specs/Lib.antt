@@ -3,7 +3,7 @@
 --   Shown    the store that area and cards show, and what makes them legible
 --   Found    where an entry was found
 --   Level    how many tables of a level a key has passed
---   Look     what is read, level by level
+--   Look     levels that can be read
 pub mod Shown
 pub mod Found
 pub mod Level

@@ -2,16 +2,15 @@
 use Prim.Native.Nat.{ℕ, _+_, _*_, _≤_, _<_}
 use mathlib.Core.Path.{_≡_}
 use mathlib.Core.Bool.{true}
-use mathlib.Core.List.{List, [], map, reverse}
+use mathlib.Core.List.{List, []}
 use lib.ListN.{length, getD}
 use Rattle.table.specs.Limits.{placeSize}
 use Rattle.table.specs.Entry.{Entry}
 use Rattle.table.specs.Table.{entries, isTable, placeOf}
-use Rattle.ldc.specs.Lists.{flat}
-use Rattle.ldc.specs.Store.{Store, links, slice, sources}
+use Rattle.ldc.specs.Store.{Store}
 use Rattle.ldc.specs.Lent.{Lent, rowGood, sizesGood, broken}
 use Rattle.ldc.specs.Rules.{spansRise}
-use Rattle.ldc.specs.Layout.{mostPlaces, linkLimit, linkCount, linkAt}
+use Rattle.ldc.specs.Layout.{mostPlaces, linkLimit, linkCount, linkAt, summaryIn, tableSummary}
 use Rattle.book.specs.Pieces.{Words, Rows}
 use Rattle.book.specs.Rows.{shownBy, Wide}
 
@@ -32,6 +31,19 @@ pub record Legible (area : List ℕ) (cards : List (List ℕ)) : Type 0 where
 abbrev pub Listed : (area items : List ℕ) → Type 0
 Listed area items = (i : ℕ) → i < length items → Tabled area (getD items i 0)
 
+-- A place that holds a table, with the table's summary on its card.
+pub record Summed (area : List ℕ) (cards : List (List ℕ)) (p : ℕ) : Type 0 where
+  pub tabled : Tabled area p
+  pub summary : summaryIn (getD cards p []) ≡ tableSummary (placeOf area p)
+
+-- Such are the places that links name, and the items of a list.
+abbrev pub LinksSummed : (area : List ℕ) → (cards : List (List ℕ)) → Type 0
+LinksSummed area cards =
+    (p i : ℕ) → p < length cards → i < linkCount (getD cards p []) → Summed area cards (linkAt (getD cards p []) i .place)
+
+abbrev pub ListSummed : (area : List ℕ) → (cards : List (List ℕ)) → (items : List ℕ) → Type 0
+ListSummed area cards items = (i : ℕ) → i < length items → Summed area cards (getD items i 0)
+
 -- The list of a level below: all its items name tables, and their spans rise.
 pub record Rising (area : List ℕ) (cards : List (List ℕ)) (items : List ℕ) : Type 0 where
   pub listed : Listed area items
@@ -51,18 +63,6 @@ pub record Writable (m : Lent) : Type 0 where
   pub wide : Wide (m .cards)
   pub memory : length (m .memory) ≡ placeSize
   pub kept : Kept m
-
--- The entries of some places' tables, the last of them first.
-abbrev pub newestIn : (area places : List ℕ) → List Entry
-newestIn area ps = flat (map (λ p. entries (placeOf area p)) (reverse ps))
-
--- All that is read of some tables of a level below.
-abbrev pub readsIn : Store → (places : List ℕ) → List Entry
-readsIn s ps = flat (flat (map (sources s) ps))
-
--- The slices of a table's links, newest first.
-abbrev pub linkedEntries : Store → (p : ℕ) → List Entry
-linkedEntries s p = flat (map (slice s) (reverse (links s p)))
 
 -- ---- the same over the parameters of a call, at its entry
 

@@ -1,13 +1,12 @@
-// One level below 0: where a table's span ends, whether it reaches a key or starts by it, how many tables a key has reached or passed, and
-// whether a span holds it.
+// One level below 0: where a table's span ends, whether it reaches a key, starts by it or holds it, how many tables a key has reached or
+// passed, and whether one of their spans holds it.
 ghost use mathlib.Core.Path.{_≡_};
 ghost use Prim.Native.Nat.{_+_, _≤_, _<_};
 ghost use lib.Dec.{leb};
-ghost use lib.ListN.{length, getD};
-ghost use Rattle.table.specs.Search.{leastKey};
+ghost use lib.ListN.{length};
 ghost use Rattle.ldc.specs.Lists.{any};
 ghost use Rattle.ldc.specs.Store.{spanStart, spanEnd, spanHolds};
-ghost use Rattle.read.specs.Shown.{shownIn, Tabled, Legible, Rising, tableIn};
+ghost use Rattle.read.specs.Shown.{shownIn, Tabled, Legible, Rising};
 ghost use Rattle.read.specs.Level.{rank};
 use super::place;
 use book::row;
@@ -68,15 +67,25 @@ fn starts_by(area: &[u8], cards: &[Row], p: usize, key: Key) -> bool
     place::least(area, p).at_most(key)
 }
 
-// How many tables have a least key of at most this one: as many as it has passed, or one more, whose span may reach it. The next has a
-// greater one.
+// Does a table's span hold a key?
+pub fn span_holds(area: &[u8], cards: &[Row], p: usize, key: Key) -> bool
+    requires { ⌜ Legible (now area) (now cards) × Tabled (now area) p ⌝ }
+    ensures { λ r. ⌜ r ≡ spanHolds (shownIn area cards) p (key .value) ⌝ }
+{
+    if starts_by(area, cards, p, key) {
+        reaches(area, cards, p, key)
+    } else {
+        false
+    }
+}
+
+// How many tables have a least key of at most this one: as many as it has passed, or one more, whose span may reach it.
 pub fn count_reached(area: &[u8], cards: &[Row], items: &[u16], key: Key) -> usize
     requires { ⌜ Legible (now area) (now cards) × Rising (now area) (now cards) (now items) ⌝ }
     ensures { λ r. ⌜
         (r ≤ length (now (items .entry)))
         × ((rank (shownIn area cards) (key .value) (now (items .entry)) ≤ r)
-        × ((r ≤ rank (shownIn area cards) (key .value) (now (items .entry)) + 1)
-        × (r < length (now (items .entry)) → key .value < leastKey (tableIn area (getD (now (items .entry)) r 0)))))
+        × (r ≤ rank (shownIn area cards) (key .value) (now (items .entry)) + 1))
         ⌝ }
 {
     let mut low = 0;

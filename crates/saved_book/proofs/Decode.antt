@@ -1,23 +1,24 @@
 -- Decode after encode: the bytes that saving a sound store writes are of the form of a saved book, and over an area of as many places or more
 -- they show just the store that was saved, the added places free. The fields go from left to right, by `Shown`.
-use Prim.Native.Nat.{ℕ, zero, suc, _+_, _-_, _^_, _≤_, _<_}
+use Prim.Native.Nat.{ℕ, _+_, _-_, _^_, _≤_, _<_}
 use mathlib.Core.Path.{_≡_, refl, sym, _∙_, ap}
 use mathlib.Core.Bool.{true}
 use mathlib.Core.List.{List, [], _∷_, _++_, map, append-assoc, append-nil, List·Memᴰ}
 use mathlib.Core.Option.{Option, some, none}
 use native.Mathlib.Omega.{arith}
 use borrow.Author.Tests.{le-leb, eq-eqb}
-use lib.ListN.{length, getD, drop, replicate, length-append, length-drop}
+use lib.ListN.{length, getD, drop, length-append, length-drop}
 use Rattle.coding.specs.Number.{numberAt, bytesOf}
 use Rattle.coding.proofs.NumberLaws.{numberAt-there, length-bytesOf}
 use Rattle.table.specs.Limits.{placeSize, tableLimit}
 use Rattle.table.specs.Table.{entriesBytes, entriesAt, tableBytes}
 use Rattle.table.proofs.Decode.{behind}
 use Rattle.ldc.specs.Lists.{flat}
-use Rattle.ldc.specs.Store.{Card, free, Store, size}
-use Rattle.ldc.specs.Layout.{fewestPlaces, mostPlaces, markWords, rowOf}
-use Rattle.ldc.specs.Lent.{placesIn, lentOf}
-use Rattle.ldc.proofs.Basics.ListLaws.{Each, length-flat, mem-getD, spell}
+use Rattle.ldc.specs.Store.{Store, size, card, bytesAt}
+use Rattle.ldc.specs.Layout.{fewestPlaces, mostPlaces, markWords}
+use Rattle.ldc.specs.Lent.{placesIn, chop, lentOf}
+use Rattle.ldc.proofs.Basics.ListLaws.{Each, length-flat, parts-flat, mem-getD, spell}
+use Rattle.ldc.proofs.Lent.Round.{chop-parts, few-links}
 use Rattle.ldc.proofs.Stores.Facts.{cursor-sound}
 use Rattle.ldc.proofs.Stores.Fits.{Fits}
 use Rattle.ldc.proofs.Stores.Sound.{Sound}
@@ -25,7 +26,8 @@ use Rattle.ldc.proofs.Stores.SoundRules.{threshold-eight}
 use Rattle.saved_book.specs.Saved.{savedKind, wholeSize, numberBytes, markBytes, cardBytes, listBytes, memoryBytes, fieldBytes, savedBytes}
 use Rattle.saved_book.specs.Form.{wholeIn, kindIn, placesSaved, thresholdSaved, cursorSaved, cardsStart, headForm}
 use Rattle.saved_book.specs.Form.{memoryTo, cardsTo, listsTo, savedForm, listsStart, memoryStart}
-use Rattle.saved_book.specs.Opened.{rowsSaved, openedRows, levelsSaved, openedLists, openedHead, openedMemory, openedOver, grownOver}
+use Rattle.saved_book.specs.Opened.{rowsSaved, openedRows, levelsSaved, openedLists, openedHead, openedMemory, openedOver, grownOver, summedRows}
+use Rattle.saved_book.proofs.Summed.{bareRow, summed-rows, bare-grown}
 use Rattle.saved_book.proofs.Shown.{stands, MarkFits, MarkShown, ItemsFit, mark-shown, cards-shown, lists-shown, small-valid, entries-shown}
 use Rattle.saved_book.proofs.Fitting.{mark-fits, card-fits, list-fits, length-markBytes, field-short}
 
@@ -76,7 +78,7 @@ head-shown b w p t c m n r hw hp ht hc hm hn whole =
 pub record BookShown (b : List ℕ) (s : Store) : Type 0 where
   pub form : savedForm b ≡ true
   pub places : placesSaved b ≡ size s
-  pub rows : rowsSaved (placesSaved b) b cardsStart ≡ map rowOf (s .cards)
+  pub rows : rowsSaved (placesSaved b) b cardsStart ≡ map bareRow (s .cards)
   pub levels : levelsSaved b ≡ s .levels
   pub head : openedHead b ≡ s .threshold ∷ s .cursor ∷ flat (map markWords (s .marks)) ++ map (λ ps. length ps) (s .levels)
   pub memory : openedMemory b ≡ tableBytes (s .memory)
@@ -122,7 +124,7 @@ module _ (s : Store) (so : Sound s) (fi : Fits s) where
 
   -- The fields behind the head.
   record FieldsShown (b : List ℕ) : Type 0 where
-    rows : rowsSaved (size s) b cardsStart ≡ map rowOf (s .cards)
+    rows : rowsSaved (size s) b cardsStart ≡ map bareRow (s .cards)
     cards-to : cardsTo b ≡ some (listsStart b)
     levels : levelsSaved b ≡ s .levels
     lists-to : listsTo b (listsStart b) ≡ some (memoryStart b)
@@ -193,23 +195,25 @@ module _ (s : Store) (so : Sound s) (fi : Fits s) where
 
 -- ---- the store as opened
 
-map-replicate : (n : ℕ) → map rowOf (replicate n free) ≡ replicate n (rowOf free)
-map-replicate zero = refl
-map-replicate (suc n) = ap (λ (rows : List (List ℕ)). rowOf free ∷ rows) (map-replicate n)
-
-pub rows-grown : (cs : List Card) (n : ℕ) → map rowOf (cs ++ replicate n free) ≡ map rowOf cs ++ replicate n (rowOf free)
-rows-grown [] n = map-replicate n
-rows-grown (c ∷ cs) n = ap (λ (rows : List (List ℕ)). rowOf c ∷ rows) (rows-grown cs n)
-
--- Bytes that show a store show it over other places, too, the added ones free.
-module _ (b : List ℕ) (s : Store) (h : BookShown b s) (places : List (List ℕ)) (each : Each placeSize places) where
+-- Bytes that show a store show it over other places, too, the added ones free, if what is live or frozen there is a table.
+module _ (b : List ℕ) (s : Store) (h : BookShown b s) (places : List (List ℕ)) (each : Each placeSize places) (so : Sound (grownOver places s)) where
   pub places-flat : placesIn (flat places) ≡ length places
   unfolding placesIn
   places-flat = omega (arith, length-flat placeSize places each)
 
-  opened-rows : openedRows (placesIn (flat places)) b ≡ lentOf (grownOver places s) .cards
-  unfolding openedRows lentOf grownOver
-  opened-rows = rw (places-flat, h .rows, h .places) (sym (rows-grown (s .cards) (length places - size s)))
+  chopped : chop (placesIn (flat places)) (flat places) ≡ places
+  chopped = rw (places-flat, chop-parts) (parts-flat placeSize places each)
+
+  rows-bare : openedRows (placesIn (flat places)) b ≡ map bareRow (grownOver places s .cards)
+  unfolding openedRows grownOver
+  rows-bare = rw (places-flat, h .rows, h .places) (sym (bare-grown (s .cards) (length places - size s)))
+
+  opened-rows : summedRows (openedRows (placesIn (flat places)) b) (chop (placesIn (flat places)) (flat places)) ≡ lentOf (grownOver places s) .cards
+  unfolding lentOf grownOver card bytesAt
+  opened-rows =
+      rw (rows-bare, chopped)
+      (summed-rows (grownOver places s .cards) places (few-links (grownOver places s) so)
+      (λ p f. so .tables p f .good))
 
   opened-lists : openedLists (placesIn (flat places)) b ≡ lentOf (grownOver places s) .lists
   unfolding openedLists lentOf grownOver
@@ -242,5 +246,6 @@ module _ (s : Store) (so : Sound s) (fi : Fits s) where
   pub saved-places : placesSaved (savedBytes s) ≡ size s
   saved-places = saved-shows s so fi .places
 
-  pub saved-opened : (places : List (List ℕ)) → Each placeSize places → openedOver (flat places) (savedBytes s) ≡ lentOf (grownOver places s)
-  saved-opened places each = opened-shown (savedBytes s) s (saved-shows s so fi) places each
+  pub saved-opened : (places : List (List ℕ)) → Each placeSize places → Sound (grownOver places s)
+      → openedOver (flat places) (savedBytes s) ≡ lentOf (grownOver places s)
+  saved-opened places each grown = opened-shown (savedBytes s) s (saved-shows s so fi) places each grown

@@ -18,6 +18,7 @@ use Rattle.table.specs.Valid.{Values}
 use Rattle.table.proofs.Encode.{entry-back}
 use Rattle.table.proofs.Found.{entryAt-key}
 use Rattle.table.proofs.Tests.{and-parts, or-parts}
+use Rattle.summary.specs.Summary.{summaryWords}
 use Rattle.ldc.specs.Lists.{all, flat}
 use Rattle.ldc.specs.Store.{linksOf}
 use Rattle.ldc.specs.Layout.{linkSize, linkLimit, rowHead, stateOf, linkCount, linksAt, cardOf, stateWord, markOf, markGood}
@@ -60,7 +61,7 @@ unfolding rowSaved stateOf linkCount
 row-says b at few good =
     let n = countSaved b at in
     let ls = linksSaved n b (at + cardHead) in
-    let rest = zeros (linkSize * linkLimit - linkSize * n) in
+    let rest : List ℕ = zeros (linkSize * linkLimit - linkSize * n) ++ zeros summaryWords in
     let back : linksAt n (rowSaved b at) rowHead ≡ ls =
     rw (length-linksSaved n b (at + cardHead)) at (links-back ls (rowSaved b at) rowHead rest refl) in
     (state-of (rowSaved b at) good, links-of (rowSaved b at) good few ∙ back)

@@ -1,6 +1,7 @@
 -- What follows from the definition of a saved book.
 --   Forms    what `savedForm` says of the head, and of each card, list and entry
 --   Grows    a store over more places than before, the added ones free, is the same store
+--   Summed   summaries worked out afresh are those of the store's rows
 --   Shown    where the bytes of a field stand, that field is read
 --   Fitting  the fields of a sound store fit the bytes that they take
 --   Decode   decode after encode: what saving writes shows the store that was saved
@@ -12,6 +13,7 @@
 --   Done     what number 0 says
 pub mod Forms
 pub mod Grows
+pub mod Summed
 pub mod Shown
 pub mod Fitting
 pub mod Decode

@@ -4,16 +4,18 @@
 use Prim.Native.Nat.{ℕ, _-_, _≤_, _<_}
 use mathlib.Core.Path.{_≡_, refl, sym, _∙_, ap}
 use mathlib.Core.Bool.{Bool, true, false, cond}
-use mathlib.Core.List.{List, [], _++_, map, append-nil}
+use mathlib.Core.List.{List, [], _++_, append-nil}
 use native.Mathlib.Omega.{arith}
 use borrow.Author.Tests.{le-ltb}
 use lib.Dec.{ltb}
 use lib.ListN.{length, getD, replicate}
 use Rattle.coding.specs.Number.{Bytes}
 use Rattle.table.specs.Limits.{placeSize}
+use Rattle.table.specs.Table.{zeros}
+use Rattle.summary.specs.Summary.{summaryWords}
 use Rattle.ldc.specs.Lists.{flat, isEmpty}
 use Rattle.ldc.specs.Store.{Store, free, size, card, isFree, bytesAt}
-use Rattle.ldc.specs.Layout.{levelCount, rowOf}
+use Rattle.ldc.specs.Layout.{levelCount, rowWith, rowsOf}
 use Rattle.ldc.specs.Lent.{Lent, placesIn, chop, sizesGood, levelOf, storeOf, lentOf, broken}
 use Rattle.ldc.specs.Facts.{Shape}
 use Rattle.ldc.specs.Run.{accepted, wrongSizes, unsound}
@@ -27,7 +29,8 @@ use Rattle.saved_book.specs.Saved.{savedBytes}
 use Rattle.saved_book.specs.Form.{placesSaved, savedForm}
 use Rattle.saved_book.specs.Opened.{openedOver, grownOver}
 use Rattle.saved_book.specs.Calls.{notABook, fewerPlaces, Opening, opening, openBook}
-use Rattle.saved_book.proofs.Decode.{rows-grown, saved-form, saved-places, saved-opened}
+use Rattle.saved_book.proofs.Summed.{rows-grown}
+use Rattle.saved_book.proofs.Decode.{saved-form, saved-places, saved-opened}
 use Rattle.saved_book.proofs.Grows.{Holding, grown-level, grown-sound, grown-whole}
 use Rattle.saved_book.proofs.Resaved.{resaved}
 
@@ -53,13 +56,13 @@ module _ (m : Lent) (z : sizesGood m ≡ true) where
 -- ---- opening what was saved
 
 module _ (s : Store) (S : Sound s) (F : Fits s) (onto : Lent) (z : sizesGood onto ≡ true) (h : Holding (placesOf onto) s) where
+  pub opened-sound : Sound (grownOver (placesOf onto) s)
+  opened-sound = grown-sound s (placesOf onto) S h
+
   pub opened-shows : openedOver (onto .area) (savedBytes s) ≡ lentOf (grownOver (placesOf onto) s)
   opened-shows =
       ap (λ (area : List ℕ). openedOver area (savedBytes s)) (sym (flat-places onto z))
-      ∙ saved-opened s S F (placesOf onto) (each-place onto z)
-
-  pub opened-sound : Sound (grownOver (placesOf onto) s)
-  opened-sound = grown-sound s (placesOf onto) S h
+      ∙ saved-opened s S F (placesOf onto) (each-place onto z) opened-sound
 
   pub opened-whole : Whole (grownOver (placesOf onto) s)
   opened-whole = grown-whole s (placesOf onto) S h (each-place onto z)
@@ -81,7 +84,7 @@ withArea area m = record { area = area; cards = m .cards; lists = m .lists; head
 pub record OpensGrown (m onto : Lent) (o : Opening) : Type 0 where
   pub number : o .number ≡ accepted
   pub area : o .lent .area ≡ onto .area
-  pub cards : o .lent .cards ≡ m .cards ++ replicate (placesIn (onto .area) - placesIn (m .area)) (rowOf free)
+  pub cards : o .lent .cards ≡ m .cards ++ replicate (placesIn (onto .area) - placesIn (m .area)) (rowWith free (zeros summaryWords))
   pub lists : (n : ℕ) → n < levelCount → levelOf (o .lent) n ≡ levelOf m n
   pub head : o .lent .head ≡ m .head
   pub memory : o .lent .memory ≡ m .memory
@@ -110,11 +113,16 @@ module _ (m onto : Lent) (sh : Shape m) (z : sizesGood m ≡ true) (k : broken m
   unfolding grown
   opened = opens (storeOf m) so fi onto zo holding
 
-  grown-cards : lentOf grown .cards ≡ m .cards ++ replicate (placesIn (onto .area) - placesIn (m .area)) (rowOf free)
-  unfolding grown lentOf grownOver
+  grown-cards : lentOf grown .cards ≡ m .cards ++ replicate (placesIn (onto .area) - placesIn (m .area)) (rowWith free (zeros summaryWords))
+  unfolding grown lentOf grownOver card bytesAt
   grown-cards =
-      let same : map rowOf (storeOf m .cards) ≡ m .cards = ap (λ (x : Lent). x .cards) back in
-      rw (rows-grown (storeOf m .cards) (length (placesOf onto) - size (storeOf m)), same, length-places onto, size-storeOf m z)
+      let same : rowsOf (storeOf m .cards) (storeOf m .places) ≡ m .cards = ap (λ (x : Lent). x .cards) back in
+      rw (
+        rows-grown (storeOf m .cards) (length (placesOf onto) - size (storeOf m)) (placesOf onto) (storeOf m .places) (holding .bytes),
+        same,
+        length-places onto,
+        size-storeOf m z,
+      )
 
   grown-lists : (n : ℕ) → n < levelCount → levelOf (lentOf grown) n ≡ levelOf m n
   unfolding grown

@@ -26,8 +26,9 @@ use Rattle.ldc.proofs.Lent.Rules.{unbroken}
 use Rattle.saved_book.specs.Saved.{wholeSize, numberBytes, listBytes, memoryBytes, fieldBytes, savedBytes}
 use Rattle.saved_book.specs.Form.{wholeIn, placesSaved, thresholdSaved, cursorSaved, flagSaved1, keySaved1, flagSaved2, keySaved2, cardsStart}
 use Rattle.saved_book.specs.Form.{savedForm, listsStart, memoryStart}
-use Rattle.saved_book.specs.Opened.{rowsSaved, openedRows, levelsSaved, openedLists, openedHead, openedMemory, openedOver}
+use Rattle.saved_book.specs.Opened.{rowsSaved, openedRows, levelsSaved, openedLists, openedHead, openedMemory, openedOver, summedRows}
 use Rattle.saved_book.proofs.Forms.{FormIn, form-parts}
+use Rattle.saved_book.proofs.Summed.{cards-summed, good-summed}
 use Rattle.saved_book.proofs.Shown.{Small, entries-shown}
 use Rattle.saved_book.proofs.Encode.{length-rowsSaved, length-listsSaved, lists-few, mark-back, cards-back, lists-back, entries-back}
 
@@ -89,9 +90,15 @@ module _ (area b : List ℕ) (by : Bytes b) (form : savedForm b ≡ true) (many 
       let none : placesIn area - placesSaved b ≡ 0 = omega arith in
       rw none (append-nil (rowsSaved (placesSaved b) b cardsStart))
 
+  -- The same cards, with summaries and without.
+  cards-opened : map cardOf (summedRows (openedRows (placesIn area) b) (chop (placesIn area) area)) ≡ map cardOf rows
+  cards-opened = rw rows-opened (cards-summed rows (chop (placesIn area) area))
+
   rows-good : all rowGood rows ≡ true
   unfolding numbersGood openedOver
-  rows-good = rw rows-opened at (and-parts (all rowGood (openedOver area b .cards)) _ (unbroken (openedOver area b) kept .numbers) .0)
+  rows-good =
+      sym (good-summed rows (chop (placesIn area) area))
+      ∙ rw rows-opened at (and-parts (all rowGood (openedOver area b .cards)) _ (unbroken (openedOver area b) kept .numbers) .0)
 
   four-levels : length (levelsSaved b) ≡ levelCount
   unfolding levelsSaved
@@ -129,7 +136,7 @@ module _ (area b : List ℕ) (by : Bytes b) (form : savedForm b ≡ true) (many 
     cursor = cursorSaved b;
     marks = markOf (flagSaved1 b) (keySaved1 b) ∷ markOf (flagSaved2 b) (keySaved2 b) ∷ [];
     levels = levels-opened i;
-    cards = map cardOf (rows-opened i);
+    cards = cards-opened i;
     places = chop (placesIn area) area;
     memory = memory-opened i;
   }

@@ -19,10 +19,11 @@ use Rattle.table.proofs.Decode.{behind, shown-entry}
 use Rattle.table.proofs.Writes.{length-entryBytes}
 use Rattle.ldc.specs.Lists.{flat}
 use Rattle.ldc.specs.Store.{Link, Card, free, live, frozen, linksOf}
-use Rattle.ldc.specs.Layout.{frozenState, linkLimit, markWords, markGood, stateWord, rowOf}
+use Rattle.ldc.specs.Layout.{frozenState, linkLimit, markWords, markGood, stateWord, rowWith}
 use Rattle.saved_book.specs.Saved.{numberBytes, keyBytes, markBytes, linkBytes, cardBytes, listBytes}
 use Rattle.saved_book.specs.Form.{placesSaved, cardHead, linkWidth, countSaved, cardEnd, cardTo, listEnd, listTo, entryTo, inTurn}
 use Rattle.saved_book.specs.Opened.{linkSaved, linksSaved, rowSaved, rowsSaved, itemsSaved, listsSaved}
+use Rattle.saved_book.proofs.Summed.{bareRow}
 
 -- Bytes that stand somewhere end within the whole.
 pub stands : (s : List ℕ) (at : ℕ) (a r : List ℕ) → drop at s ≡ a ++ r → 1 ≤ length a → at + length a ≤ length s
@@ -129,7 +130,7 @@ pub record CardFits (c : Card) : Type 0 where
   pub links : LinksFit (linksOf c)
 
 pub record CardShown (s : List ℕ) (at : ℕ) (c : Card) (r : List ℕ) : Type 0 where
-  pub row : rowSaved s at ≡ rowOf c
+  pub row : rowSaved s at ≡ bareRow c
   pub to : cardTo s at ≡ some (cardEnd s at)
   pub room : cardEnd s at ≤ length s
   pub next : drop (cardEnd s at) s ≡ r
@@ -141,7 +142,7 @@ state-small frozen = omega arith
 
 module _ (s : List ℕ) where
   pub card-shown : (c : Card) (at : ℕ) (r : List ℕ) → CardFits c → drop at s ≡ cardBytes c ++ r → CardShown s at c r
-  unfolding cardBytes numberBytes rowSaved rowOf cardTo
+  unfolding cardBytes numberBytes rowSaved rowWith cardTo
   card-shown c at r fits h =
       let n = length (linksOf c) in
       let ls = flat (map linkBytes (linksOf c)) in
@@ -174,7 +175,7 @@ module _ (s : List ℕ) where
 
   pub cards-shown : (cs : List Card) (at : ℕ) (r : List ℕ) → ((c : Card) → List·Memᴰ c cs → CardFits c)
       → at ≤ length s → drop at s ≡ flat (map cardBytes cs) ++ r
-      → (rowsSaved (length cs) s at ≡ map rowOf cs) × Ends (cardTo s) (length cs) s at r
+      → (rowsSaved (length cs) s at ≡ map bareRow cs) × Ends (cardTo s) (length cs) s at r
   cards-shown [] at r fits room h = (refl, record { end = at; turns = refl; room = room; next = h })
   cards-shown (c ∷ cs) at r fits room h =
       let one = card-shown c at (flat (map cardBytes cs) ++ r) (fits c (List·Memᴰ·head refl))

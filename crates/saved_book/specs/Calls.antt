@@ -12,7 +12,7 @@ use Rattle.ldc.specs.Lent.{Lent, placesIn, sizesGood, storeOf, broken}
 use Rattle.ldc.specs.Run.{accepted, wrongSizes, shortAnswer, unsound}
 use Rattle.saved_book.specs.Saved.{savedBytes}
 use Rattle.saved_book.specs.Form.{placesSaved, cardsStart, cardHead, linkWidth, savedForm}
-use Rattle.saved_book.specs.Opened.{openedRows, openedOver}
+use Rattle.saved_book.specs.Opened.{openedOver}
 
 -- ---- the numbers, each said once
 
@@ -91,4 +91,4 @@ openWith working m bytes = cond (eqb (length working) (length (m .cards))) (open
 -- What they hold after it: with 0 and 5 the rows of the store as opened, which had to be judged; with 1, 21 and 22 they stay.
 unfoldable pub workingAfter : (number : ℕ) → (working : List (List ℕ)) → (area bytes : List ℕ) → List (List ℕ)
 workingAfter number working area bytes =
-    cond (eqb number accepted || eqb number unsound) (openedRows (placesIn area) bytes) working
+    cond (eqb number accepted || eqb number unsound) (openedOver area bytes .cards) working

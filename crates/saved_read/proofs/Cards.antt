@@ -12,8 +12,9 @@ use Rattle.coding.specs.Number.{numberAt}
 use Rattle.coding.proofs.Sets.{sets-append, sets-mid, sets-all}
 use Rattle.table.specs.Table.{zeros}
 use Rattle.table.proofs.Zeros.{length-zeros, zeros-add}
+use Rattle.summary.specs.Summary.{summaryWords}
 use Rattle.ldc.specs.Store.{free}
-use Rattle.ldc.specs.Layout.{linkSize, linkLimit, linkStart, linkWords, rowOf}
+use Rattle.ldc.specs.Layout.{linkSize, linkLimit, linkStart, linkWords, rowWith}
 use Rattle.saved_book.specs.Form.{placesSaved, cardsStart, cardHead, linkWidth, countSaved, cardEnd, cardTo, inTurn}
 use Rattle.saved_book.specs.Opened.{linkSaved, linksSaved, rowSaved, rowsSaved, openedRows}
 use Rattle.saved_book.proofs.Forms.{CardAt, card-turn}
@@ -35,17 +36,18 @@ words-long : (n : ℕ) (s : List ℕ) (at : ℕ) → length (linkWords (linksSav
 words-long zero s at = refl
 words-long (suc n) s at = let r = words-long n s (at + linkWidth) in omega arith
 
--- State, count and zeros, over which all links are to be written.
+-- State, count and zeros, over which all links are to be written; the last of the zeros are the summary's.
 pub row-start : (s : List ℕ) (at state n left from : ℕ) → state ≡ numberAt 2 s at → n ≡ countSaved s at → n ≤ linkLimit → left ≡ n → from ≡ at + cardHead
-    → rowSaved s at ≡ sets (state ∷ n ∷ zeros (linkSize * linkLimit)) 2 (linkWords (linksSaved left s from))
+    → rowSaved s at ≡ sets (state ∷ n ∷ zeros (linkSize * linkLimit + summaryWords)) 2 (linkWords (linksSaved left s from))
 unfolding rowSaved
 row-start s at state n left from es en h el ef =
     let front : List ℕ = state ∷ n ∷ [] in
     let words : List ℕ = linkWords (linksSaved n s (at + cardHead)) in
     let over : ℕ = linkSize * linkLimit - linkSize * n in
-    let rest : zeros (linkSize * linkLimit) ≡ zeros (linkSize * n) ++ zeros over = ap zeros (omega arith) ∙ zeros-add (linkSize * n) over in
+    let rest : zeros (linkSize * linkLimit + summaryWords) ≡ zeros (linkSize * n) ++ (zeros over ++ zeros summaryWords) =
+    ap zeros (omega arith) ∙ zeros-add (linkSize * n) (over + summaryWords) ∙ ap (λ (z : List ℕ). zeros (linkSize * n) ++ z) (zeros-add over summaryWords) in
     let long : length (zeros (linkSize * n)) ≡ length words = length-zeros (linkSize * n) ∙ sym (words-long n s (at + cardHead)) in
-    rw (← es, ← en, el, ef, rest) (sym (sets-mid front (zeros (linkSize * n)) (zeros over) words 2 refl long))
+    rw (← es, ← en, el, ef, rest) (sym (sets-mid front (zeros (linkSize * n)) (zeros over ++ zeros summaryWords) words 2 refl long))
 
 pub link-turn : (row s : List ℕ) (at n i : ℕ) → i < n
     → sets row (linkStart i) (linkWords (linksSaved (n - i) s (at + linkWidth * i)))
@@ -97,15 +99,15 @@ free-long (suc n) row = ap suc (free-long n row)
 -- The rows saved and free ones behind them are all.
 pub rows-whole : (rows r1 r2 : List (List ℕ)) (s : List ℕ) (n : ℕ) → n ≡ placesSaved s → placesSaved s ≤ length rows
     → r1 ≡ sets rows 0 (rowsSaved (placesSaved s) s cardsStart)
-    → r2 ≡ sets r1 n (replicate (length r1 - n) (rowOf free))
+    → r2 ≡ sets r1 n (replicate (length r1 - n) (rowWith free (zeros summaryWords)))
     → r2 ≡ openedRows (length rows) s
 unfolding openedRows
 rows-whole rows r1 r2 s n en h e1 e2 =
     let saved : List (List ℕ) = rowsSaved (placesSaved s) s cardsStart in
-    let added : List (List ℕ) = replicate (length rows - placesSaved s) (rowOf free) in
+    let added : List (List ℕ) = replicate (length rows - placesSaved s) (rowWith free (zeros summaryWords)) in
     let long : length saved ≡ placesSaved s = rows-long (placesSaved s) s cardsStart in
     let same : length r1 ≡ length rows = ap length e1 ∙ length-sets rows 0 saved in
-    let all : length (saved ++ added) ≡ length rows = omega (arith, length-append saved added, free-long (length rows - placesSaved s) (rowOf free)) in
+    let all : length (saved ++ added) ≡ length rows = omega (arith, length-append saved added, free-long (length rows - placesSaved s) (rowWith free (zeros summaryWords))) in
     let at : 0 + length saved ≡ placesSaved s = omega arith in
     let whole : sets (sets rows 0 saved) (placesSaved s) added ≡ saved ++ added =
     sym (sym (sets-all rows (saved ++ added) all) ∙ sets-append rows 0 saved added ∙ ap (λ (i : ℕ). sets (sets rows 0 saved) i added) at) in

@@ -1,12 +1,14 @@
-// The rows of the cards: those saved, and free ones for the added places.
+// The rows of the cards: those saved, and free ones for the added places. The summaries are zero: see `summaries`.
 ghost use mathlib.Core.Path.{_≡_};
 ghost use mathlib.Core.Bool.{true};
 ghost use mathlib.Core.List.{[], _∷_};
 ghost use Prim.Native.Nat.{_+_, _-_, _≤_, _<_};
 ghost use lib.ListN.{length, replicate};
 ghost use lib.Seq.{sets};
+ghost use Rattle.table.specs.Table.{zeros};
+ghost use Rattle.summary.specs.Summary.{summaryWords};
 ghost use Rattle.ldc.specs.Store.{free};
-ghost use Rattle.ldc.specs.Layout.{linkLimit, linkStart, linkWords, rowOf};
+ghost use Rattle.ldc.specs.Layout.{linkLimit, linkStart, linkWords, rowWith};
 ghost use Rattle.saved_book.specs.Form.{placesSaved, cardsStart, linkWidth, countSaved, cardEnd, savedForm};
 ghost use Rattle.saved_book.specs.Opened.{linkSaved, rowSaved, rowsSaved, openedRows};
 use book::row;
@@ -74,12 +76,12 @@ fn put_rows(s: &[u8], rows: &mut [Row])
 fn free_from(rows: &mut [Row], from: usize)
     requires { ⌜ from ≤ length (now rows) ⌝ }
     ensures { λ _. ⌜
-        now (rows .exit) ≡ sets (now (rows .entry)) from (replicate (length (now (rows .entry)) - from) (rowOf free))
+        now (rows .exit) ≡ sets (now (rows .entry)) from (replicate (length (now (rows .entry)) - from) (rowWith free (zeros summaryWords)))
         ⌝ }
 {
     let mut i = from;
     while i < rows.len() {
-        row::set_state(rows, i, row::FREE);
+        row::free(rows, i);
         i += 1;
     }
 }

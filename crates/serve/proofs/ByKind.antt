@@ -15,6 +15,7 @@ use Rattle.ldc.specs.Request.{known, bodyGood, keyIn, highIn, valueIn, only, ke
 use Rattle.ldc.specs.Memtable.{servePut}
 use Rattle.ldc.specs.Place.{serveFlush}
 use Rattle.ldc.specs.Read.{serveLookUp, serveScan, serveReport}
+use Rattle.ldc.specs.Probe.{serveProbe}
 use Rattle.ldc.specs.Steps.{serveTidy}
 use Rattle.ldc.specs.Serve.{serveKind, serve}
 use Rattle.ldc.proofs.Basics.Cases.{cases}
@@ -26,27 +27,31 @@ use Rattle.serve_write.specs.Turn.{request, suspectAfter}
 abbrev pub good : (kind len : ℕ) → Bool
 good kind len = cond (known kind) (bodyGood kind len) true
 
-known-of : (kind : ℕ) → 1 ≤ kind → kind ≤ 7 → known kind ≡ true
+known-of : (kind : ℕ) → 1 ≤ kind → kind ≤ 8 → known kind ≡ true
 unfolding known
-known-of kind low high = rw (le-leb 1 kind low, le-leb kind 7 high)
+known-of kind low high = rw (le-leb 1 kind low, le-leb kind 8 high)
 
 pub unknown-0 : known 0 ≡ false
 unfolding known
 unknown-0 = refl
 
-pub unknown-above : (kind : ℕ) → 8 ≤ kind → known kind ≡ false
+pub unknown-above : (kind : ℕ) → 9 ≤ kind → known kind ≡ false
 unfolding known
-unknown-above kind h = rw (le-leb 1 kind (omega arith), lt-leb kind 7 h)
+unknown-above kind h = rw (le-leb 1 kind (omega arith), lt-leb kind 8 h)
 
 module _ (kind : ℕ) (body : List ℕ) where
   -- A known kind with a good body.
-  fits : 1 ≤ kind → kind ≤ 7 → good kind (length body) ≡ true → bodyGood kind (length body) ≡ true
+  fits : 1 ≤ kind → kind ≤ 8 → good kind (length body) ≡ true → bodyGood kind (length body) ≡ true
   fits low high g = let k = known-of kind low high in rw k at g
 
   -- The lengths that a good body has.
   pub length-3 : kind ≡ 3 → good kind (length body) ≡ true → length body ≡ 8
   unfolding bodyGood
   length-3 e g = let f = fits (omega arith) (omega arith) g in eqb-true (length body) 8 (rw e at f)
+
+  pub length-8 : kind ≡ 8 → good kind (length body) ≡ true → length body ≡ 8
+  unfolding bodyGood
+  length-8 e g = let f = fits (omega arith) (omega arith) g in eqb-true (length body) 8 (rw e at f)
 
   pub length-4 : kind ≡ 4 → good kind (length body) ≡ true → length body ≡ 16
   unfolding bodyGood
@@ -82,7 +87,7 @@ module _ (s : Store) (kind : ℕ) (body : List ℕ) where
       cases (known kind) (λ q. rw (q, (rw q at h)))
       (λ q. absurd (true≢false (rw q at h)))
 
-  serve-good : 1 ≤ kind → kind ≤ 7 → good kind (length body) ≡ true → serve s (request kind body) ≡ serveKind s kind body
+  serve-good : 1 ≤ kind → kind ≤ 8 → good kind (length body) ≡ true → serve s (request kind body) ≡ serveKind s kind body
   unfolding serve
   serve-good low high g = rw (known-of kind low high, fits kind body low high g)
 
@@ -105,6 +110,10 @@ module _ (s : Store) (kind : ℕ) (body : List ℕ) where
   pub serve-7 : kind ≡ 7 → good kind (length body) ≡ true → serve s (request kind body) ≡ serveReport s
   unfolding serveKind
   serve-7 e g = serve-good (omega arith) (omega arith) g ∙ rw e
+
+  pub serve-8 : kind ≡ 8 → good kind (length body) ≡ true → serve s (request kind body) ≡ serveProbe s (keyIn body)
+  unfolding serveKind
+  serve-8 e g = serve-good (omega arith) (omega arith) g ∙ rw e
 
   pub serve-put : 1 ≤ kind → kind ≤ 2 → good kind (length body) ≡ true
       → serve s (request kind body) ≡ servePut s (entryOf kind (keyIn body) (valueIn body))

@@ -16,6 +16,7 @@ use Rattle.ldc.specs.Lent.{Lent, storeOf, lentOf}
 use Rattle.ldc.specs.Request.{Served, replyBytes, only}
 use Rattle.ldc.specs.Memtable.{servePut}
 use Rattle.ldc.specs.Read.{lookUp, serveLookUp, serveScan, serveReport}
+use Rattle.ldc.specs.Probe.{serveProbe}
 use Rattle.ldc.proofs.Basics.Cases.{cases}
 use Rattle.ldc.proofs.Lent.Rules.{unbroken}
 use Rattle.ldc.proofs.Lent.Shows.{sizes}
@@ -37,6 +38,10 @@ scan-store s low high = cases (ltb high low) (λ q. rw q) (λ q. rw q)
 pub look-up-store : (s : Store) (k : ℕ) → serveLookUp s k .store ≡ s
 unfolding serveLookUp
 look-up-store s k = look-store s (lookUp s k)
+
+pub probe-store : (s : Store) (k : ℕ) → serveProbe s k .store ≡ s
+unfolding serveProbe
+probe-store s k = refl
 
 pub report-store : (s : Store) → serveReport s .store ≡ s
 unfolding serveReport

@@ -11,6 +11,7 @@ ghost use Rattle.wire.specs.Reply.{Room};
 use book::head::Head;
 use book::row::Row;
 use serve_read::look_up;
+use serve_read::probe;
 use serve_read::report;
 use serve_read::scan;
 use serve_write::put;
@@ -83,6 +84,14 @@ pub fn serve(
             suspect,
             written: report::report_reply(cards, head, memory, answer, at),
         },
+        kinds::PROBE => {
+            let key = body::key_at(body, 0);
+            Turn {
+                head,
+                suspect,
+                written: probe::probe_reply(area, cards, lists, head, memory, key, answer, at),
+            }
+        }
         kinds::NO_KIND | kinds::FIRST_UNKNOWN..=kinds::LAST_UNKNOWN => Turn {
             head,
             suspect,

@@ -21,6 +21,7 @@ use Rattle.ldc.specs.Request.{Request, tidyKind, known, bodyGood, keyIn, highIn
 use Rattle.ldc.specs.Memtable.{servePut}
 use Rattle.ldc.specs.Place.{freePlaces, placeTaken, written, flushed, serveFlush}
 use Rattle.ldc.specs.Read.{serveLookUp, serveScan, serveReport, lookUp}
+use Rattle.ldc.specs.Probe.{serveProbe}
 use Rattle.ldc.specs.Tidy.{Spot, dueWith, due, dueIn, dueTable, mergeStep, downStep, slicesOf, overfull, round, tidyStep}
 use Rattle.ldc.specs.Steps.{replaced, leaves, doMove, doLink, doMerge, stepServed, serveTidy}
 use Rattle.ldc.specs.Serve.{serve}
@@ -239,5 +240,6 @@ module _ (s : Store) (S : Sound s) where
     scan = λ k _. unfold serveScan in rw (stays on r (λ e. omega arith)) (cases (ltb (highIn (r .body)) (keyIn (r .body))) (λ q. rw q calm) (λ q. rw q calm));
     flush = λ k _. rw (stays on r (λ e. omega arith)) (calm-flush on calm);
     tidy = λ k z. rw (tidies on r k z) (calm-tidy on calm);
+    probe = λ k _. unfold serveProbe in rw (stays on r (λ e. omega arith)) calm;
     report = λ k _. unfold serveReport in rw (stays on r (λ e. omega arith)) calm;
   })

@@ -1,4 +1,5 @@
 // Requests that read, with their replies.
 pub mod look_up;
+pub mod probe;
 pub mod report;
 pub mod scan;

@@ -11,12 +11,15 @@ use book::limits::LINK_LIMIT;
 use book::row;
 use book::row::Link;
 use book::row::Row;
+use summary::filter;
+use summary::filter::SUMMARY_BYTES;
 
-// A card: its state, how many links it has, and the links, oldest first. Any numbers at all may be lent.
+// A card: its state, how many links it has, the links, oldest first, and the summary of its table. Any numbers at all may be lent.
 pub struct Card {
     pub state: u64,
     pub count: u64,
     pub links: [Link; LINK_LIMIT],
+    pub summary: [u8; SUMMARY_BYTES],
 }
 
 // The card of a place.
@@ -48,6 +51,8 @@ pub fn words_of(card: Card) -> Row
     let l5 = links[5];
     let l6 = links[6];
     let l7 = links[7];
+    let summary = card.summary;
+    let words = filter::words_of(&summary);
     [
         card.state,
         card.count,
@@ -83,6 +88,10 @@ pub fn words_of(card: Card) -> Row
         l7.low.value,
         l7.high.value,
         l7.number,
+        words[0],
+        words[1],
+        words[2],
+        words[3],
     ]
 }
 
@@ -90,6 +99,12 @@ pub fn words_of(card: Card) -> Row
 pub fn card_of(row: Row) -> Card
     ensures { λ r. ⌜ wordsOf r ≡ row ⌝ }
 {
+    let summary = filter::bytes_of(
+        row[row::SUMMARY],
+        row[row::SUMMARY + 1],
+        row[row::SUMMARY + 2],
+        row[row::SUMMARY + 3],
+    );
     Card {
         state: row::state(&row),
         count: row::link_count(&row),
@@ -103,6 +118,7 @@ pub fn card_of(row: Row) -> Card
             row::link_at(&row, 6),
             row::link_at(&row, 7),
         ],
+        summary,
     }
 }
 

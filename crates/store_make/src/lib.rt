@@ -21,7 +21,7 @@ fn free_all(cards: &mut [Row])
 {
     let mut i = 0;
     while i < cards.len() {
-        row::set_state(cards, i, row::FREE);
+        row::free(cards, i);
         i += 1;
     }
 }

@@ -10,14 +10,15 @@ use lib.Dec.{eqb, ltb}
 use lib.ListN.{length, take, length-append}
 use lib.Seq.{take-append-seam}
 use Rattle.ldc.specs.Lists.{isEmpty}
-use Rattle.ldc.specs.Lent.{Lent, placesIn, sizesGood, broken}
+use Rattle.ldc.specs.Lent.{Lent, placesIn, chop, sizesGood, broken}
 use Rattle.ldc.specs.Run.{accepted, wrongSizes, unsound, check, letterOf}
 use Rattle.ldc.proofs.Basics.Cases.{cases}
 use Rattle.saved_book.specs.Form.{placesSaved, savedForm, listsStart, memoryStart}
-use Rattle.saved_book.specs.Opened.{openedRows, openedLists, openedHead, openedMemory, openedOver}
+use Rattle.saved_book.specs.Opened.{openedRows, openedLists, openedHead, openedMemory, openedOver, summedRows}
 use Rattle.saved_book.proofs.Opens.{accepts}
 use Rattle.saved_book.specs.Calls.{notABook, fewerPlaces, Opening, opening, openBook, openWith, workingAfter}
 use Rattle.book.specs.Pieces.{lent}
+use Rattle.book.specs.Rows.{Sized}
 use Rattle.check_store.specs.Answer.{Answers}
 use Rattle.ldc.proofs.Lent.Shows.{sizes}
 use Rattle.saved_form.specs.declared.form.Parts.{Parts}
@@ -112,17 +113,21 @@ module _ (m : Lent) (bytes : List ℕ) (z : sizesGood m ≡ true) (x : Parts) (f
   fewer h = into-fewer m bytes z (f .form) (omega (arith, h, f .places, sizes m z .cards))
 
   module _ (h : x .places ≤ length (m .cards)) where
+    -- The rows read have the area beside them.
+    pub rows-sized : (rows : List (List ℕ)) → length rows ≡ length (m .cards) → Sized (m .area) rows
+    rows-sized rows n = record { whole = sizes m z .area ∙ rw (n, sizes m z .cards); most = omega (arith, n, sizes m z .cards, sizes m z .most) }
+
     pub room : placesSaved bytes ≤ length (m .cards)
     room = omega (arith, h, f .places)
 
-    pub judged : (rows : List (List ℕ)) (lists head memory : List ℕ)
-        → rows ≡ openedRows (length (m .cards)) bytes → lists ≡ openedLists (length (m .cards)) bytes → head ≡ openedHead bytes → memory ≡ openedMemory bytes
+    pub judged : (read rows : List (List ℕ)) (lists head memory : List ℕ)
+        → read ≡ openedRows (length (m .cards)) bytes → rows ≡ summedRows read (chop (placesIn (m .area)) (m .area)) → lists ≡ openedLists (length (m .cards)) bytes → head ≡ openedHead bytes → memory ≡ openedMemory bytes
         → length rows ≡ length (m .cards) → length lists ≡ length (m .lists)
         → (number letter : ℕ) → Answers (lent (m .area) rows lists head memory) number letter
         → Into number letter m bytes (lent (m .area) rows lists head memory)
     unfolding openedOver
-    judged rows lists head memory er el eh em nr nl number letter a =
-        let same : lent (m .area) rows lists head memory ≡ openedOver (m .area) bytes = rw (er, el, eh, em, sizes m z .cards) in
+    judged read rows lists head memory ed er el eh em nr nl number letter a =
+        let same : lent (m .area) rows lists head memory ≡ openedOver (m .area) bytes = rw (er, ed, el, eh, em, sizes m z .cards) in
         let good : sizesGood (openedOver (m .area) bytes) ≡ true =
         rw (← same) (sizes-same m (lent (m .area) rows lists head memory) refl nr nl ∙ z) in
         let a′ : Answers (openedOver (m .area) bytes) number letter = rw same at a in

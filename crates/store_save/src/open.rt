@@ -61,6 +61,7 @@ fn open_into(
         };
     }
     saved_read::rows::read_rows(bytes, rows);
+    saved_read::summaries::sum_rows(area, rows);
     saved_read::lists::read_lists(bytes, parts.lists, places, lists);
     *head = saved_read::head::read_head(bytes, parts.lists);
     saved_read::memory::read_memory(bytes, parts.memory, memory);

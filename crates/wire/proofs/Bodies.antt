@@ -37,17 +37,22 @@ module _ (len : ℕ) where
   good-none kind low high =
       rw (
         le-leb 1 kind (omega arith),
-        le-leb kind 7 high,
+        le-leb kind 8 (omega arith),
         ne-eqb kind 1 (λ e. omega arith),
         ne-eqb kind 2 (λ e. omega arith),
         ne-eqb kind 3 (λ e. omega arith),
+        ne-eqb kind 8 (λ e. omega arith),
         ne-eqb kind 4 (λ e. omega arith),
       )
+
+  pub good-8 : eqb len 8 ≡ cond (known 8) (bodyGood 8 len) true
+  unfolding known bodyGood
+  good-8 = refl
 
   pub good-zero : true ≡ cond (known 0) (bodyGood 0 len) true
   unfolding known
   good-zero = refl
 
-  pub good-above : (kind : ℕ) → 8 ≤ kind → true ≡ cond (known kind) (bodyGood kind len) true
+  pub good-above : (kind : ℕ) → 9 ≤ kind → true ≡ cond (known kind) (bodyGood kind len) true
   unfolding known
-  good-above kind h = rw (le-leb 1 kind (omega arith), lt-leb kind 7 h)
+  good-above kind h = rw (le-leb 1 kind (omega arith), lt-leb kind 8 h)

@@ -19,7 +19,7 @@ pub fn is_good(kind: u16, len: usize) -> bool
 {
     match kind {
         kinds::PUT => (KEY <= len) & (len <= KEY + limits::VALUE_LIMIT),
-        kinds::DELETE | kinds::LOOK_UP => len == KEY,
+        kinds::DELETE | kinds::LOOK_UP | kinds::PROBE => len == KEY,
         kinds::SCAN => len == KEY + KEY,
         kinds::FLUSH..=kinds::REPORT => len == 0,
         kinds::NO_KIND | kinds::FIRST_UNKNOWN..=kinds::LAST_UNKNOWN => true,

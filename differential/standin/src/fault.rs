@@ -2,7 +2,7 @@
 //! (in every call), or `result:FROM:TO` or `number:FROM:TO`. STANDIN_RARE=N plants it in one of N runs only. Those of saving and
 //! opening are in `fault_saved`.
 
-use reference::lent::{Row, LINK_NUMBER, ROW_COUNT, ROW_LINKS, ROW_WORDS};
+use reference::lent::{Row, LINK_NUMBER, ROW_COUNT, ROW_LINKS, ROW_SUMMARY, ROW_WORDS};
 use reference::slip::Slip;
 use std::sync::atomic::{AtomicU64, Ordering};
 use std::sync::OnceLock;
@@ -125,8 +125,15 @@ const FAULTS: &[Fault] = &[
         done.cards
             .iter_mut()
             .take(1)
-            .for_each(|row| row[ROW_WORDS - 1] ^= u64::from(done.number == 0));
+            .for_each(|row| row[ROW_SUMMARY - 1] ^= u64::from(done.number == 0));
     }),
+    ("bit_live", |done| flip_bit(done, 1)),
+    ("bit_frozen", |done| flip_bit(done, 2)),
+    ("bit_free", |done| flip_bit(done, 0)),
+    ("probe_found", |done| spoil_probe(done, 6)),
+    ("probe_opened", |done| spoil_probe(done, 8)),
+    ("probe_bits", |done| spoil_probe(done, 10)),
+    ("probe_bits_wide", |done| spoil_probe(done, 13)),
     ("link_number", |done| {
         let linked = done.cards.iter_mut().find(|row| row[ROW_COUNT] > 0);
         linked.into_iter().for_each(|row| {
@@ -152,6 +159,24 @@ const FAULTS: &[Fault] = &[
     ("number_wide", |done| done.number |= u64::from(done.number == 4) << 16),
     ("empty_list_4", |done| done.number |= 4 * u64::from(done.list.is_empty())),
 ];
+
+/// Flips the last bit of the first card of this state.
+fn flip_bit(done: &mut Done, state: u64) {
+    let card = done.cards.iter_mut().find(|row| row[0] == state);
+    card.into_iter().for_each(|row| row[ROW_WORDS - 1] ^= u64::from(done.number == 0) << 63);
+}
+
+/// Flips a bit in a byte of each reply of kind 8 that has a body.
+fn spoil_probe(done: &mut Done, byte: usize) {
+    let (mut at, end) = (0, done.written());
+    while at < end {
+        let length = usize::from(u16::from_le_bytes([done.answers[at], done.answers[at + 1]]));
+        if done.answers[at + 2] == 8 && length > byte {
+            done.answers[at + byte] ^= 1;
+        }
+        at += length;
+    }
+}
 
 pub fn spoil_byte(byte: Option<&mut u8>) {
     if let Some(byte) = byte {

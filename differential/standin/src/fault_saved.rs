@@ -1,7 +1,7 @@
 //! The faults that can be planted in a saving or an opening.
 
 use crate::fault::{beside, due, fault, spoil_byte};
-use reference::lent::{Lent, Row};
+use reference::lent::{Lent, Row, ROW_SUMMARY};
 
 /// A saving that was done rightly, and is now to be spoilt.
 pub struct SavingDone<'a> {
@@ -86,6 +86,22 @@ const OPENING: &[OpeningFault] = &[
     ("open_working_stays", |done| {
         if done.number == 0 {
             done.working.iter_mut().for_each(|row| row[33] ^= 1);
+        }
+    }),
+    ("open_bits_left", |done| {
+        if let (0, Some(row)) = (done.number, done.cards.iter_mut().find(|row| row[0] == 1)) {
+            row[ROW_SUMMARY..].fill(0);
+        }
+    }),
+    ("open_free_bits_left", |done| {
+        if let (0, Some(place)) = (done.number, done.cards.iter().position(|row| row[0] == 0)) {
+            let old = &done.before.cards[place][ROW_SUMMARY..];
+            done.cards[place][ROW_SUMMARY..].copy_from_slice(old);
+        }
+    }),
+    ("open_working_bits", |done| {
+        if done.number == 5 {
+            done.working.iter_mut().for_each(|row| row[ROW_SUMMARY] ^= 1);
         }
     }),
     ("open_working_written", |done| {

@@ -1,8 +1,11 @@
 //! A small client of the proved store for tests by name: requests to bytes, replies from bytes, and stores put together by
 //! hand. Nothing here comes from the second implementation but the container of the lent memory; the tests take its limits.
 
+use crate::tables::summarize;
 use differential::{check, make, run, Outcome};
 use reference::lent::{Lent, LINK_WORDS, ROW_COUNT, ROW_LINKS};
+
+pub use crate::tables::{digits, marks, table, table_of, Entry};
 
 pub const GREATEST: u64 = u64::MAX;
 
@@ -17,6 +20,7 @@ pub enum Ask {
     PutLetters(u64, usize),
     Delete(u64),
     LookUp(u64),
+    Probe(u64),
     Scan(u64, u64),
     Flush,
     Tidy,
@@ -38,6 +42,8 @@ pub enum Reply {
     /// Step and level of a tidy.
     Step(u16, u16),
     Counts([u16; 8]),
+    /// The value if found, tables opened and their bits.
+    Probed(Option<String>, u16, u32),
     /// A result that is not 0.
     Not(u16),
 }
@@ -52,6 +58,7 @@ impl Ask {
             Ask::Flush => 5,
             Ask::Tidy => 6,
             Ask::Report => 7,
+            Ask::Probe(_) => 8,
             Ask::Odd(kind, _) => *kind,
         }
     }
@@ -62,7 +69,7 @@ impl Ask {
             Ask::PutLetters(key, length) => {
                 [&key.to_le_bytes()[..], letters(*length).as_bytes()].concat()
             }
-            Ask::Delete(key) | Ask::LookUp(key) => key.to_le_bytes().to_vec(),
+            Ask::Delete(key) | Ask::LookUp(key) | Ask::Probe(key) => key.to_le_bytes().to_vec(),
             Ask::Scan(low, high) => [low.to_le_bytes(), high.to_le_bytes()].concat(),
             Ask::Flush | Ask::Tidy | Ask::Report => Vec::new(),
             Ask::Odd(_, length) => vec![7; *length],
@@ -107,6 +114,7 @@ fn reply(kind: u16, answers: &mut &[u8]) -> Reply {
             assert_eq!(body.len(), 16);
             Reply::Counts(std::array::from_fn(|count| pair(body, 2 * count)))
         }
+        (0, 8) => probed(body),
         _ => {
             assert_eq!(body.len(), 0, "no body with result {result} of kind {kind}");
             if result == 0 {
@@ -116,6 +124,13 @@ fn reply(kind: u16, answers: &mut &[u8]) -> Reply {
             }
         }
     }
+}
+
+fn probed(body: &[u8]) -> Reply {
+    let (found, value) = (pair(body, 0), text(&body[8..]));
+    assert!(found == 1 || (found == 0 && value.is_empty()), "found is {found}, with {value:?}");
+    let bits = u32::from_le_bytes(body[4..8].try_into().expect("four bytes"));
+    Reply::Probed((found == 1).then_some(value), pair(body, 2), bits)
 }
 
 fn values(body: &[u8]) -> Reply {
@@ -152,6 +167,7 @@ impl Client {
         for (place, (level, keys)) in tables.iter().enumerate() {
             lent.area[place * 1024..(place + 1) * 1024].copy_from_slice(&table(keys));
             lent.cards[place][0] = 1;
+            summarize(&mut lent.cards[place], keys.iter().copied());
             lent.lists[level * places + lent.head[6 + level] as usize] = place as u16;
             lent.head[6 + level] += 1;
         }
@@ -171,6 +187,7 @@ impl Client {
         let lent = &mut self.lent;
         lent.area[place * 1024..(place + 1) * 1024].copy_from_slice(&table_of(entries));
         lent.cards[place][0] = 2;
+        summarize(&mut lent.cards[place], entries.iter().map(|(key, _)| *key));
         for (on, low, high) in links {
             let number = entries.iter().filter(|(key, _)| low <= key && key <= high).count();
             let card = &mut lent.cards[*on];
@@ -249,41 +266,6 @@ impl Client {
         let places = self.lent.cards.len();
         &self.lent.lists[level * places..][..self.lent.head[6 + level] as usize]
     }
-}
-
-/// A key with its value, or with none for a delete mark.
-pub type Entry = (u64, Option<String>);
-
-/// Entries whose values are their keys in decimal digits.
-pub fn digits(keys: &[u64]) -> Vec<Entry> {
-    keys.iter().map(|key| (*key, Some(key.to_string()))).collect()
-}
-
-/// Delete marks of these keys.
-pub fn marks(keys: impl IntoIterator<Item = u64>) -> Vec<Entry> {
-    keys.into_iter().map(|key| (key, None)).collect()
-}
-
-/// A table of such entries.
-pub fn table(keys: &[u64]) -> [u8; 1024] {
-    table_of(&digits(keys))
-}
-
-pub fn table_of(entries: &[Entry]) -> [u8; 1024] {
-    let mut used = Vec::new();
-    for (key, value) in entries {
-        let text = value.as_deref().unwrap_or("");
-        used.extend((12 + text.len() as u16).to_le_bytes());
-        used.extend([if value.is_some() { 1 } else { 2 }, 0]);
-        used.extend(key.to_le_bytes());
-        used.extend(text.as_bytes());
-    }
-    let mut bytes = [0; 1024];
-    bytes[..2].copy_from_slice(&(8 + used.len() as u16).to_le_bytes());
-    bytes[2] = 32;
-    bytes[4] = entries.len() as u8;
-    bytes[8..8 + used.len()].copy_from_slice(&used);
-    bytes
 }
 
 /// A scan's reply with these keys, all with one value.

@@ -30,7 +30,11 @@ fn break_rule(lent: &mut Lent, letter: char) {
         'C' => lent.area[2 * 1024 + 2] = 31,
         'D' => lent.memory[6] = 1,
         'E' => lent.cards[1][NUMBER] = 3,
-        'F' => lent.cards[10][ROW_STATE] = STATE_FROZEN,
+        'F' => {
+            lent.cards[10][ROW_STATE] = STATE_FROZEN;
+            // The bit of its one key, 7, without which C would be broken.
+            lent.cards[10][ROW_SUMMARY] = 1 << 7;
+        }
         'G' => lent.head[HEAD_MARKS] = 2,
         _ => unreachable!("A to G"),
     }
@@ -123,8 +127,8 @@ fn a_link_whose_place_is_not_frozen_breaks_e_before_f() {
     store.breaks(b'E');
     // No link names it any more: nothing is wrong with the links.
     let mut store = sound();
-    store.lent.cards[1][ROW_COUNT..].fill(0);
-    store.lent.cards[2][ROW_COUNT..].fill(0);
+    store.lent.cards[1][ROW_COUNT..ROW_SUMMARY].fill(0);
+    store.lent.cards[2][ROW_COUNT..ROW_SUMMARY].fill(0);
     store.breaks(b'F');
 }
 

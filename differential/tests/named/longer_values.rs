@@ -2,6 +2,7 @@
 //! lengths.
 
 use crate::client::{found, letters, list, table_of, Ask, Client, Entry, Reply, GREATEST};
+use crate::tables::summarize;
 use differential::check;
 use reference::limits::{ENTRY_BYTES, REPLY_BYTES, TABLE_ENTRIES, TABLE_HEAD, VALUE_BYTES};
 use std::collections::BTreeMap;
@@ -85,6 +86,7 @@ fn full_table(first: u64, last: usize) -> [u8; 1024] {
 fn full_tables() -> Client {
     let mut store = Client::with_tables(16, 4, &[(1, &[7])]);
     store.lent.area[..1024].copy_from_slice(&full_table(0, VALUE_BYTES));
+    summarize(&mut store.lent.cards[0], sixteen(0));
     let mut store = store.freeze(1, &longest_entries(4), &[(0, 0, GREATEST)]);
     store.lent.memory = full_table(9, VALUE_BYTES);
     assert_eq!(check(&store.lent), (0, 0));

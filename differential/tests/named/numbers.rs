@@ -3,7 +3,7 @@
 
 use crate::client::{digits, marks, Client, GREATEST};
 use differential::check;
-use reference::lent::{LINK_NUMBER, LINK_WORDS, ROW_LINKS, ROW_WORDS};
+use reference::lent::{LINK_NUMBER, LINK_WORDS, ROW_LINKS, ROW_SUMMARY};
 use reference::limits::CARD_LINKS;
 
 /// The word of a row that holds the number of a link.
@@ -13,10 +13,9 @@ fn number_word(link: usize) -> usize {
 
 /// What the note says in numbers; the tests go by the names.
 #[test]
-fn a_row_has_34_words_and_a_link_four() {
-    assert_eq!((ROW_WORDS, LINK_WORDS), (34, 4));
-    assert_eq!((number_word(0), number_word(CARD_LINKS - 1)), (5, ROW_WORDS - 1));
-    assert_eq!(size_of::<reference::lent::Row>(), 272);
+fn a_link_has_four_words_and_eight_of_them_stand_before_the_summary() {
+    assert_eq!((ROW_SUMMARY, LINK_WORDS), (34, 4));
+    assert_eq!((number_word(0), number_word(CARD_LINKS - 1)), (5, ROW_SUMMARY - 1));
 }
 
 /// A table of eight entries in place 0, on which hang three entries of place 1, one of them a delete mark, and two of place 2.

@@ -7,10 +7,10 @@ use differential::open;
 use reference::lent::*;
 
 /// A row that no card is.
-const ODD_ROW: Row = [0xEEEE_EEEE; ROW_WORDS];
+pub const ODD_ROW: Row = [0xEEEE_EEEE; ROW_WORDS];
 
 /// Lent memory with this area and a book that is no store.
-fn over(area: &[u8]) -> Lent {
+pub fn over(area: &[u8]) -> Lent {
     let places = area.len() / 1024;
     let mut lent = Lent::zeroed(places);
     lent.area = area.to_vec();
@@ -22,7 +22,7 @@ fn over(area: &[u8]) -> Lent {
 }
 
 /// Opens; gives number and letter. A refusal changes nothing; the working rows are as they were but with 0 and 5.
-fn opened(lent: &mut Lent, book: &[u8]) -> (u64, u64) {
+pub fn opened(lent: &mut Lent, book: &[u8]) -> (u64, u64) {
     let before = lent.clone();
     let mut working = vec![ODD_ROW; lent.cards.len()];
     let said = open(lent, book, &mut working);

@@ -1,6 +1,7 @@
 //! Saving the book (note 4): its bytes written out by hand, every refusal with its edges and their order, and what stays untouched.
 
 use crate::client::{digits, table, Ask, Client, Reply};
+use crate::tables::summarize;
 use differential::{save, SaveOutcome};
 use reference::lent::*;
 
@@ -98,11 +99,13 @@ fn the_length_has_four_bytes() {
         for place in [live, frozen] {
             let bytes = table(&keys);
             lent.area[place * 1024..(place + 1) * 1024].copy_from_slice(&bytes);
+            summarize(&mut lent.cards[place], keys.iter().copied());
         }
         lent.cards[frozen][ROW_STATE] = STATE_FROZEN;
         lent.cards[live][ROW_STATE] = STATE_LIVE;
         lent.cards[live][ROW_COUNT] = 8;
-        for (words, key) in lent.cards[live][ROW_LINKS..].chunks_mut(LINK_WORDS).zip(&keys) {
+        let links = lent.cards[live][ROW_LINKS..ROW_SUMMARY].chunks_mut(LINK_WORDS);
+        for (words, key) in links.zip(&keys) {
             words.copy_from_slice(&[frozen as u64, *key, *key, 1]);
         }
         lent.lists[3 * 4096 + group] = live as u16;
@@ -144,6 +147,8 @@ fn a_store_that_is_not_sound_is_5_with_its_letter_before_3() {
             let one = lent.area[..1024].to_vec();
             lent.area[10 * 1024..11 * 1024].copy_from_slice(&one);
             lent.cards[10][ROW_STATE] = STATE_FROZEN;
+            let bits = lent.cards[0][ROW_SUMMARY..].to_vec();
+            lent.cards[10][ROW_SUMMARY..].copy_from_slice(&bits);
         }),
         (b'G', |lent| lent.lists[63] = 1),
     ];

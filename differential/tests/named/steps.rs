@@ -1,6 +1,7 @@
 //! Flush and tidy: what they reply, and what they leave in the lent memory.
 
 use crate::client::{digits, marks, table, table_of, Ask, Client, Reply, GREATEST};
+use crate::tables::summarize;
 use reference::lent::ROW_FREE;
 
 #[test]
@@ -110,15 +111,16 @@ fn a_link_goes_by_the_spans_below() {
 }
 
 #[test]
-fn a_move_keeps_the_bytes_of_the_table() {
+fn a_move_keeps_the_bytes_and_the_card_of_the_table() {
     let keys: Vec<[u64; 1]> = (100..133).map(|key| [key]).collect();
     let tables: Vec<(usize, &[u64])> = keys.iter().map(|key| (2, &key[..])).collect();
     let mut store = Client::with_tables(64, 4, &tables);
     store.lent.area[..1024].copy_from_slice(&table_of(&marks([50, 60])));
-    let before = store.lent.area.clone();
+    summarize(&mut store.lent.cards[0], [50, 60]);
+    let before = store.lent.clone();
     assert_eq!(store.ask_one(Ask::Tidy), Reply::Step(1, 2));
     assert_eq!(store.level(3), [0]);
-    assert!(store.lent.area == before);
+    assert!(store.lent.area == before.area && store.lent.cards == before.cards);
     // The mark of level 2 is set by a choice that ends in a move, too, and that of level 1 is not.
     assert_eq!(store.lent.head[2..6], [0, 0, 1, 60]);
 }

@@ -1,5 +1,6 @@
 //! What can be refused, in words and by the order's numbers.
 
+use crate::request::KINDS;
 use crate::VALUE_BYTES;
 use std::fmt;
 
@@ -10,7 +11,7 @@ pub enum Rule {
     A,
     /// Cards and level lists.
     B,
-    /// Tables in places.
+    /// Tables in places, and their summaries.
     C,
     /// The memory table.
     D,
@@ -46,7 +47,8 @@ impl Rule {
             }
             Rule::C => {
                 "Every live or frozen place holds a table: its length in use, kind 32, the count of entries, zero, then 1 \
-                 to 16 entries with keys strictly rising, and zeros to the end of the place."
+                 to 16 entries with keys strictly rising, and zeros to the end of the place. The 256 summary bits on its \
+                 card are those of its keys."
             }
             Rule::D => "The memory table is a table with 0 to 16 entries, keys strictly rising, and zeros behind them.",
             Rule::E => {
@@ -57,7 +59,7 @@ impl Rule {
             Rule::F => "A place is frozen exactly if a link names it.",
             Rule::G => {
                 "On levels 1 to 3 each table's span (its own keys and its links' ranges) ends below the start of the next \
-                 one, and the parts of the book that are not in use are zero."
+                 one, and the parts of the book that are not in use are zero, the summary bits of free places too."
             }
         }
     }
@@ -66,7 +68,7 @@ impl Rule {
         match self {
             Rule::A => "threshold not 1 to 8, or cursor not below the number of places",
             Rule::B => "a place whose card and lists do not fit each other",
-            Rule::C => "a live or frozen place without a good table",
+            Rule::C => "a live or frozen place without a good table or the right summary bits",
             Rule::D => "the memory table is none",
             Rule::E => "a link that is wrong or shares keys with another",
             Rule::F => "a place that is frozen without a link, or linked without being frozen",
@@ -175,8 +177,8 @@ impl Refusal {
     /// Whether a request of this kind can be refused so.
     pub(crate) fn is_of(self, kind: u16) -> bool {
         match self {
-            Refusal::UnknownKind => !(1..=7).contains(&kind),
-            Refusal::WrongBody => (1..=7).contains(&kind),
+            Refusal::UnknownKind => !KINDS.contains(&kind),
+            Refusal::WrongBody => KINDS.contains(&kind),
             Refusal::MemoryFull => matches!(kind, 1 | 2),
             Refusal::WrongRange => kind == 4,
             Refusal::NoPlace => matches!(kind, 5 | 6),

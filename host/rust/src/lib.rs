@@ -54,32 +54,37 @@
 //! Beside the lent memory a call needs stack: `host/zilgwern.h` says how much, and it is less than Rust gives a thread that asks for
 //! no other.
 //!
-//! [`Store::range`] goes over any number of values, and [`Store::view`] shows what stands where. `examples/recorder.rs` puts it
-//! together.
+//! [`Store::range`] goes over any number of values, and [`Store::view`] shows what stands where. [`Store::probe`] says how many tables
+//! a look-up opens, and [`View::asked`] which. `examples/recorder.rs` puts it together.
 
 #![deny(missing_docs, unsafe_op_in_unsafe_fn)]
 
 mod bytes;
 mod error;
+mod image;
 mod key;
 mod list;
+mod look_up;
 mod memory;
 mod range;
 mod reply;
 mod request;
 mod saved;
 mod store;
+mod summary;
 mod view;
 
 pub use error::{Error, ListError, Refusal, Refused, Rule};
 pub use key::Key;
 pub use list::List;
+pub use look_up::Asked;
 pub use memory::{Memory, Pieces, Row};
 pub use range::Range;
-pub use reply::{Page, Reply, Report, Step, Stepped};
+pub use reply::{Page, Probe, Reply, Report, Step, Stepped};
 pub use request::Request;
 pub use saved::most_saved_bytes;
 pub use store::Store;
+pub use summary::Summary;
 pub use view::{Entry, Link, Table, View};
 
 /// The fewest and the most places of a store.
@@ -93,6 +98,9 @@ pub const VALUE_BYTES: usize = 51;
 
 /// The longest entry: length, kind, key and value.
 pub const ENTRY_BYTES: usize = 12 + VALUE_BYTES;
+
+/// The most entries of a table, and of the memory table.
+pub const TABLE_ENTRIES: usize = 16;
 
 /// The most values that one scan gives.
 pub const SCAN_VALUES: usize = 16;

@@ -103,4 +103,9 @@ impl List {
     pub fn report(&mut self) -> Result<&mut List, ListError> {
         self.add(&Request::Report)
     }
+
+    /// Adds a probe: a look-up that also says what it opens.
+    pub fn probe(&mut self, key: impl Into<Key>) -> Result<&mut List, ListError> {
+        self.add(&Request::Probe(key.into()))
+    }
 }

@@ -1,7 +1,10 @@
 //! Replies as types.
 
-use crate::bytes::{pair, take_whole, word};
-use crate::{Key, Refusal, SCAN_VALUES, VALUE_BYTES};
+use crate::bytes::{double, pair, take_whole, word};
+use crate::{Key, Refusal, SCAN_VALUES, TABLE_ENTRIES, VALUE_BYTES};
+
+/// Bytes of a probe's reply before the value: found, tables, bits.
+pub(crate) const PROBE_COUNTS: usize = 2 + 2 + 4;
 
 /// A reply to one request.
 #[derive(Clone, PartialEq, Eq, Debug)]
@@ -20,6 +23,8 @@ pub enum Reply {
     Stepped(Stepped),
     /// The counts of a report.
     Report(Report),
+    /// What a probe found, and what was opened for it.
+    Probe(Probe),
     /// The request was refused, and the store is as it was.
     Refused(Refusal),
 }
@@ -68,6 +73,17 @@ pub struct Report {
     pub memory: u16,
 }
 
+/// What a look-up gives, and what it opens on the way.
+#[derive(Clone, PartialEq, Eq, Default, Debug)]
+pub struct Probe {
+    /// The value under the key, if there is one.
+    pub value: Option<Vec<u8>>,
+    /// The tables opened, up to the one that decides; none where memory does. [`View::asked`](crate::View::asked) says which.
+    pub tables: u16,
+    /// The bits set in their summaries, added up.
+    pub bits: u32,
+}
+
 impl Reply {
     /// Takes the first reply from answer bytes, with the kind of its request; none where these are no answers of the store.
     ///
@@ -94,6 +110,7 @@ impl Reply {
             (0, 4, 4..) => Page::of(body).map(Reply::Page),
             (0, 6, 4) => Stepped::of(body).map(Reply::Stepped),
             (0, 7, 16) => Some(Reply::Report(Report::of(body))),
+            (0, 8, PROBE_COUNTS..) => Probe::of(body).map(Reply::Probe),
             (0, 1 | 2 | 5, 0) => Some(Reply::Done),
             (64, 3, 0) => Some(Reply::NoValue),
             (65, 5 | 6, 0) => Some(Reply::NothingToDo),
@@ -132,6 +149,20 @@ impl Stepped {
             _ => return None,
         };
         Some(Stepped { step, level })
+    }
+}
+
+impl Probe {
+    fn of(body: &[u8]) -> Option<Probe> {
+        let (tables, bits) = (pair(body, 2), double(body, 4));
+        let value = match (pair(body, 0), body.len() - PROBE_COUNTS) {
+            (0, 0) => None,
+            (1, 0..=VALUE_BYTES) => Some(body[PROBE_COUNTS..].to_vec()),
+            _ => return None,
+        };
+        // Every table has a key, and a key has one to three bits.
+        let most = 3 * TABLE_ENTRIES as u32 * u32::from(tables);
+        (u32::from(tables)..=most).contains(&bits).then_some(Probe { value, tables, bits })
     }
 }
 

@@ -1,10 +1,14 @@
 //! Requests as types, and reading them back out of a list's bytes.
 
 use crate::bytes::{pair, take_whole, word};
+use crate::reply::PROBE_COUNTS;
 use crate::{Key, Refusal, Refused, LIST_BYTES, REPLY_BYTES, VALUE_BYTES};
 
 /// The longest body of a put: a key and the longest value.
 pub(crate) const PUT_BODY: usize = 8 + VALUE_BYTES;
+
+/// The kinds that exist.
+pub(crate) const KINDS: std::ops::RangeInclusive<u16> = 1..=8;
 
 /// A request that is well formed but for the length of a put's value, which [`List`](crate::List) looks at.
 #[derive(Clone, PartialEq, Eq, Debug)]
@@ -23,6 +27,8 @@ pub enum Request {
     Tidy,
     /// Counts are asked for.
     Report,
+    /// The value under the key is asked for, and what a look-up opens for it.
+    Probe(Key),
 }
 
 impl Request {
@@ -36,13 +42,16 @@ impl Request {
             Request::Flush => 5,
             Request::Tidy => 6,
             Request::Report => 7,
+            Request::Probe(_) => 8,
         }
     }
 
     pub(crate) fn body(&self) -> Vec<u8> {
         match self {
             Request::Put(key, value) => [&key.0.to_le_bytes()[..], value].concat(),
-            Request::Delete(key) | Request::LookUp(key) => key.0.to_le_bytes().to_vec(),
+            Request::Delete(key) | Request::LookUp(key) | Request::Probe(key) => {
+                key.0.to_le_bytes().to_vec()
+            }
             Request::Scan(low, high) => [low.0.to_le_bytes(), high.0.to_le_bytes()].concat(),
             Request::Flush | Request::Tidy | Request::Report => Vec::new(),
         }
@@ -56,6 +65,7 @@ impl Request {
             Request::Scan(..) => REPLY_BYTES - 6,
             Request::Tidy => 4,
             Request::Report => 16,
+            Request::Probe(_) => PROBE_COUNTS + VALUE_BYTES,
         }
     }
 
@@ -70,7 +80,8 @@ impl Request {
             (5, 0) => Request::Flush,
             (6, 0) => Request::Tidy,
             (7, 0) => Request::Report,
-            (1..=7, _) => return Err(Refusal::WrongBody),
+            (8, 8) => Request::Probe(key()),
+            (kind, _) if KINDS.contains(&kind) => return Err(Refusal::WrongBody),
             _ => return Err(Refusal::UnknownKind),
         })
     }

@@ -1,7 +1,7 @@
 //! A store kept between jobs: its book saved as bytes, and opened again over an area.
 
 use crate::memory::{Held, LEVELS};
-use crate::{Error, Memory, Pieces, Refused, Row, Store, ENTRY_BYTES, PLACE_BYTES};
+use crate::{Error, Memory, Pieces, Refused, Row, Store, ENTRY_BYTES, PLACE_BYTES, TABLE_ENTRIES};
 use zilgwern_sys::{CARD_LINKS, ROW_WORDS};
 
 /// What stands before the first card: length, kind, places, threshold, cursor and two marks.
@@ -10,7 +10,7 @@ const FRONT: usize = 4 + 2 + 3 * 2 + 2 * (2 + 8);
 /// A link: place, low, high and number; a card with all of them; the memory entries.
 const LINK: usize = 2 + 8 + 8 + 2;
 const CARD: usize = 2 + 2 + CARD_LINKS * LINK;
-const ENTRIES: usize = 2 + 16 * ENTRY_BYTES;
+const ENTRIES: usize = 2 + TABLE_ENTRIES * ENTRY_BYTES;
 
 /// The length of the longest saved book of so many places: all cards with all their links, each place in a list, a full memory
 /// table of the longest entries.
@@ -40,9 +40,9 @@ impl<'a> Store<'a> {
     }
 
     /// Opens a saved book over the area of these pieces, of as many places as it names or more; the added ones are free. The area
-    /// must be that of the moment of saving: another is refused only where it breaks a rule. What the other pieces held does not
-    /// matter; they become the book, or stay as they are where it is refused. As many working rows
-    /// as cards are wanted, whatever they hold.
+    /// must be that of the moment of saving: another is refused only where it breaks a rule. The summaries are not in the bytes: they
+    /// are worked out from the area. What the other pieces held does not matter; they become the book, or stay as they are where it is
+    /// refused. As many working rows as cards are wanted, whatever they hold.
     ///
     /// ```
     /// use zilgwern::{Error, Memory, Refused, Store};

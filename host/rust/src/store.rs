@@ -3,8 +3,8 @@
 use crate::bytes::take_whole;
 use crate::memory::Held;
 use crate::view::View;
-use crate::{Error, Key, List, Memory, Page, Pieces, Range, Refused, Reply, Report, Stepped};
-use crate::{ListError, ANSWER_ROOM};
+use crate::{Error, Key, List, ListError, Memory, Page, Pieces, Probe, Range, Refused, Reply};
+use crate::{Report, Stepped, ANSWER_ROOM};
 
 /// The most room for answers that is taken at once; longer answers come in several runs.
 const MOST_ROOM: usize = 1 << 18;
@@ -150,6 +150,29 @@ impl<'a> Store<'a> {
         Ok(match self.one(|list| list.look_up(key))? {
             Reply::Value(value) => Some(value),
             _ => None,
+        })
+    }
+
+    /// The value under a key, how many tables a look-up opens for it, and the bits set in their summaries. A table is opened only if
+    /// its summary has the three bits of the key; memory is no table. [`View::asked`](crate::View::asked) says which tables these are.
+    ///
+    /// ```
+    /// use zilgwern::{Probe, Store};
+    ///
+    /// let mut store = Store::owned(16, 4)?;
+    /// store.put(5, b"A")?;
+    /// // Memory decides, and no table is opened.
+    /// assert_eq!(store.probe(5)?, Probe { value: Some(b"A".to_vec()), tables: 0, bits: 0 });
+    /// store.flush()?;
+    /// // The table of key 5 alone, whose three bits are one.
+    /// assert_eq!(store.probe(5)?, Probe { value: Some(b"A".to_vec()), tables: 1, bits: 1 });
+    /// assert_eq!(store.probe(6)?, Probe { value: None, tables: 0, bits: 0 });
+    /// # Ok::<(), zilgwern::Error>(())
+    /// ```
+    pub fn probe(&mut self, key: impl Into<Key>) -> Result<Probe, Error> {
+        Ok(match self.one(|list| list.probe(key))? {
+            Reply::Probe(probe) => probe,
+            _ => Probe::default(),
         })
     }
 

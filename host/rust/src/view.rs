@@ -2,8 +2,8 @@
 
 use crate::bytes::{pair, take_whole, word};
 use crate::memory::{LEVELS, TABLE_BYTES};
-use crate::{Key, Memory};
-use zilgwern_sys::{LINK_WORDS, ROW_LINKS};
+use crate::{Key, Memory, Summary};
+use zilgwern_sys::{LINK_WORDS, ROW_LINKS, ROW_SUMMARY};
 
 /// An entry of a table; a delete mark has no value.
 #[derive(Clone, PartialEq, Eq, Debug)]
@@ -43,6 +43,8 @@ pub struct Table {
     pub entries: Vec<Entry>,
     /// Oldest first; a frozen table has none.
     pub links: Vec<Link>,
+    /// On its card: the bits of its own keys.
+    pub summary: Summary,
 }
 
 impl Table {
@@ -52,6 +54,11 @@ impl Table {
         let ends = own.chain(self.links.iter().flat_map(|link| [link.low, link.high]));
         let (low, high) = (ends.clone().min(), ends.max());
         (low.unwrap_or(Key::LEAST), high.unwrap_or(Key::GREATEST))
+    }
+
+    /// Whether the span holds this key.
+    pub fn spans(&self, key: Key) -> bool {
+        (self.span().0..=self.span().1).contains(&key)
     }
 
     /// The entries that its links hold, all together.
@@ -126,10 +133,15 @@ impl View {
         table.links.len() as u64 >= self.threshold || table.weight() >= table.entries.len()
     }
 
+    /// The frozen table in a place.
+    pub(crate) fn frozen_at(&self, place: usize) -> Option<&Table> {
+        let found = self.frozen.binary_search_by_key(&place, |table| table.place);
+        found.ok().map(|at| &self.frozen[at])
+    }
+
     /// The entries of a frozen table that a link holds.
     pub fn slice(&self, link: &Link) -> &[Entry] {
-        let found = self.frozen.binary_search_by_key(&link.place, |table| table.place);
-        let entries = found.map_or(&[][..], |at| &self.frozen[at].entries);
+        let entries = self.frozen_at(link.place).map_or(&[][..], |table| &table.entries);
         let from = entries.partition_point(|entry| entry.key < link.low);
         let until = entries.partition_point(|entry| entry.key <= link.high);
         &entries[from..until.max(from)]
@@ -162,7 +174,7 @@ impl View {
     /// ```
     pub fn drops_mark(&self, level: usize, key: Key) -> bool {
         let mut lower = self.levels[level + 1..].iter().flatten();
-        !lower.any(|table| (table.span().0..=table.span().1).contains(&key))
+        !lower.any(|table| table.spans(key))
     }
 
     /// The level and the place of each table with a link to this place.
@@ -187,15 +199,17 @@ fn table(memory: &Memory, place: usize) -> Table {
     Table {
         place,
         entries: entries(&memory.area[place * TABLE_BYTES..][..TABLE_BYTES]),
-        links: card[ROW_LINKS..]
+        links: card[ROW_LINKS..ROW_SUMMARY]
             .chunks_exact(LINK_WORDS)
             .take(card[1] as usize)
             .map(link)
             .collect(),
+        summary: Summary::of_row(card),
     }
 }
 
-fn entries(table: &[u8]) -> Vec<Entry> {
+/// The entries in the bytes of a table.
+pub(crate) fn entries(table: &[u8]) -> Vec<Entry> {
     let mut rest = table.get(8..usize::from(pair(table, 0))).unwrap_or(&[]);
     let next = || take_whole(&mut rest, 12);
     let entry = |entry: &[u8]| Entry {

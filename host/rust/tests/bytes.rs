@@ -7,7 +7,7 @@ use zilgwern::*;
 
 fn some_request(random: &mut Random) -> Request {
     let key = Key(random.below(1 << 31) << random.below(33));
-    match random.below(7) {
+    match random.below(8) {
         0 => Request::Put(
             key,
             vec![random.below(256) as u8; random.below(VALUE_BYTES as u64 + 1) as usize],
@@ -17,6 +17,7 @@ fn some_request(random: &mut Random) -> Request {
         3 => Request::Scan(key, Key::GREATEST),
         4 => Request::Flush,
         5 => Request::Tidy,
+        6 => Request::Probe(key),
         _ => Request::Report,
     }
 }
@@ -97,12 +98,20 @@ fn page(values: &[(u8, usize)]) -> Vec<u8> {
     [&length[..], &[4, 0, 0, 0, values.len() as u8, 0, 0, 0], &body].concat()
 }
 
+/// A probe's reply with a value of this length.
+fn probe(found: u16, tables: u16, bits: u32, value: usize) -> Vec<u8> {
+    let length = (14 + value as u16).to_le_bytes();
+    let counts = [&found.to_le_bytes()[..], &tables.to_le_bytes(), &bits.to_le_bytes()].concat();
+    [&length[..], &[8, 0, 0, 0], &counts, &vec![b'v'; value]].concat()
+}
+
 #[test]
 fn bytes_that_are_no_answers_are_told_so() {
     let mut store = Store::owned(16, 4).unwrap();
     store.put(5, b"value").unwrap();
     let mut list = List::new();
     list.look_up(5).unwrap().scan(0, 9).unwrap().tidy().unwrap().report().unwrap().flush().unwrap();
+    list.probe(5).unwrap().probe(6).unwrap();
     let mut answers = vec![0; 10_000];
     let (_, written) = store.run_bytes(list.as_bytes(), &mut answers).unwrap();
     let mut random = Random(4);
@@ -119,7 +128,7 @@ fn bytes_that_are_no_answers_are_told_so() {
         wrong += u32::from(!rest.is_empty());
     }
     assert!(wrong > 1000);
-    let wrong: [&[u8]; 18] = [
+    let wrong: [&[u8]; 26] = [
         &[],
         &[6],
         &[6, 0, 1, 0, 0],
@@ -142,6 +151,16 @@ fn bytes_that_are_no_answers_are_told_so() {
         // Refusals of another kind: a scan by 18, a put by 16.
         &[6, 0, 4, 0, 18, 0],
         &[6, 0, 1, 0, 16, 0],
+        // Probes: too short; found 2; a value that is not found; one that is too long; bits of no table, and none or too many of one.
+        &[13, 0, 8, 0, 0, 0, 0, 0, 0, 0, 0, 0, 0],
+        &probe(2, 1, 1, 0),
+        &probe(0, 1, 1, 1),
+        &probe(1, 1, 1, VALUE_BYTES + 1),
+        &probe(0, 0, 1, 0),
+        &probe(0, 1, 0, 0),
+        &probe(0, 1, 49, 0),
+        // It never says that there is no value by 64.
+        &[6, 0, 8, 0, 64, 0],
     ];
     for bytes in wrong {
         let mut rest = bytes;
@@ -149,6 +168,14 @@ fn bytes_that_are_no_answers_are_told_so() {
     }
     for good in [page(&[]), page(&[(7, 0), (8, VALUE_BYTES)]), vec![6, 0, 99, 0, 16, 0]] {
         assert!(Reply::take(&mut &good[..]).is_some(), "{good:?}");
+    }
+    for (found, tables, bits, length) in
+        [(0, 0, 0, 0), (1, 0, 0, 0), (0, 2, 96, 0), (1, 1, 1, VALUE_BYTES), (1, 4096, 196_608, 3)]
+    {
+        let value = (found == 1).then(|| vec![b'v'; length]);
+        let good = Reply::Probe(Probe { value, tables, bits });
+        let mut rest = &probe(found, tables, bits, length)[..];
+        assert_eq!((Reply::take(&mut rest), rest), (Some((8, good)), &[][..]));
     }
 }
 
@@ -167,8 +194,8 @@ fn memory_goes_into_bytes_and_comes_back() {
         assert_eq!(Memory::from_bytes(&bytes[1..]), Err(Refused::Sizes));
         assert_eq!(Memory::from_bytes(&[&bytes[..], &[0]].concat()), Err(Refused::Sizes));
         let (pieces, form) = bytes.split_at(bytes.len() - 8);
-        assert_eq!(form, [2, 0, 0, 0, 0, 0, 0, 0]);
-        for other in [[1, 0, 0, 0, 0, 0, 0, 0], [2, 0, 0, 0, 0, 0, 0, 1]] {
+        assert_eq!(form, [4, 0, 0, 0, 0, 0, 0, 0]);
+        for other in [[2, 0, 0, 0, 0, 0, 0, 0], [4, 0, 0, 0, 0, 0, 0, 1]] {
             let bytes = [pieces, &other].concat();
             assert_eq!(Memory::from_bytes(&bytes), Err(Refused::Sizes));
             assert!(!Memory::is_form_1(&bytes));
@@ -180,7 +207,7 @@ fn memory_goes_into_bytes_and_comes_back() {
 /// Rows had 26 words before links had numbers, and nothing stood behind the memory table, which ended with zeros.
 #[test]
 fn bytes_of_the_first_form_are_never_taken() {
-    let mut same_lengths = 0;
+    let mut same_lengths = [0; 2];
     for places in PLACES {
         let mut bytes = vec![0; places * (1024 + 26 * 8 + 8) + 80 + 1024];
         // A new store: the threshold, and an empty memory table.
@@ -188,11 +215,15 @@ fn bytes_of_the_first_form_are_never_taken() {
         bytes[head] = 4;
         bytes[head + 80..head + 84].copy_from_slice(&[8, 0, 32, 0]);
         assert_eq!(Memory::from_bytes(&bytes), Err(Refused::Sizes), "{places}");
+        assert_eq!(Memory::from_form_2(&bytes), Err(Refused::Sizes), "{places}");
         assert!(Memory::is_form_1(&bytes), "{places}");
-        same_lengths += PLACES.filter(|other| Memory::byte_count(*other) == bytes.len()).count();
+        let lengths = [Memory::form_2_byte_count, Memory::byte_count];
+        for (same, length) in same_lengths.iter_mut().zip(lengths) {
+            *same += PLACES.filter(|other| length(*other) == bytes.len()).count();
+        }
     }
-    // Every 163rd length, from 61 places on, is one of both forms.
-    assert_eq!(same_lengths, 25);
+    // Every 163rd length, from 61 places on, is one of forms 1 and 2; every 167th, from 153 on, one of forms 1 and 4.
+    assert_eq!(same_lengths, [25, 24]);
     let wrong = [0, 1103, 1104, 15 * 1240 + 1104, 4097 * 1240 + 1104, 16 * 1240 + 1105];
     assert!(wrong.iter().all(|length| !Memory::is_form_1(&vec![0; *length])));
 }

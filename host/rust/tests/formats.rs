@@ -1,8 +1,8 @@
-//! The examples of docs/FORMATS.md are what the library takes and gives.
+//! The requests, replies, tables and limits that docs/FORMATS.md prints are what the library takes and gives.
 
 mod common;
 
-use common::printed;
+use common::{printed, written};
 use zilgwern::*;
 
 const PAGE: &str = include_str!("../../../docs/FORMATS.md");
@@ -21,12 +21,13 @@ fn example(words: &str) -> Vec<u8> {
 #[test]
 fn requests_are_as_printed() {
     type Add = fn(&mut List) -> Result<&mut List, ListError>;
-    let requests: [(&str, Add); 5] = [
+    let requests: [(&str, Add); 6] = [
         ("put \"A\" under key 5", |list| list.put(5, b"A")),
         ("delete key 5", |list| list.delete(5)),
         ("look up key 5", |list| list.look_up(5)),
         ("scan of all keys", |list| list.scan(Key::LEAST, Key::GREATEST)),
         ("  flush", List::flush),
+        ("probe of key 5", |list| list.probe(5)),
     ];
     for (words, add) in requests {
         let mut list = List::new();
@@ -54,6 +55,7 @@ fn replies_are_as_printed() {
         ("nothing to flush (65)", List::new().flush().cloned()),
         ("value \"A\"", List::new().put(5, b"A").and_then(|list| list.look_up(5)).cloned()),
         ("one entry, no more", List::new().scan(0, 99).cloned()),
+        ("probe: no value, and no table was opened", List::new().probe(8).cloned()),
         (
             "free 31, live on level 0 one, in memory two",
             List::new()
@@ -71,9 +73,27 @@ fn replies_are_as_printed() {
     for (words, list) in replies {
         assert_eq!(answer(&mut store, &list.unwrap()), example(words), "{words}");
     }
+    let probed = answer(&mut store, List::new().probe(5).unwrap());
+    assert_eq!(probed, example("probe: value \"A\", from one table, which has one bit set"));
     let mut list = List::new();
     list.flush().unwrap().put(3, b"").unwrap().flush().unwrap().tidy().unwrap();
     assert_eq!(answer(&mut store, &list), example("a table moved from level 0"));
+}
+
+/// Those of the store with a link, and the tables that a look-up asks there.
+#[test]
+fn probes_of_the_store_with_a_link_are_as_printed() {
+    let mut store = Store::open_owned(printed()).unwrap();
+    for (key, words, asked) in [
+        (5, "probe of key 5: one table opened, two bits", &[3, 2, 1][..]),
+        (256, "probe of key 256: one table opened, three bits", &[3, 2, 1, 0]),
+        (8, "probe of key 8: none of four tables opened", &[3, 2, 1, 0]),
+    ] {
+        assert_eq!(answer(&mut store, List::new().probe(key).unwrap()), example(words), "{words}");
+        let places: Vec<usize> =
+            store.view().asked(Key(key)).iter().map(|it| it.table.place).collect();
+        assert_eq!(places, asked, "{words}");
+    }
 }
 
 /// Puts sixteen of the longest values, under keys from 5 on.
@@ -122,123 +142,10 @@ fn a_table_of_the_longest_entries_is_as_printed() {
     assert_eq!(memory.area[0x3F7..0x400], [b'v', 0, 0, 0, 0, 0, 0, 0, 0]);
 }
 
-/// The bytes of a piece of the example with a link, up to the first that are left out, and the words behind its last line.
-fn piece(name: &str) -> (Vec<u8>, &'static str) {
-    let mut lines = PAGE.lines().skip_while(|line| !line.starts_with(&format!("    {name}  ")));
-    let first = lines.next().expect(name);
-    let others = lines.take_while(|line| line.starts_with(&" ".repeat(12)));
-    let lines: Vec<&str> = [first].into_iter().chain(others).map(|line| &line[12..]).collect();
-    let byte = |pair: &str| u8::from_str_radix(pair, 16).ok().filter(|_| pair.len() == 2);
-    let bytes = lines.iter().flat_map(|line| line.split_whitespace().map_while(byte)).collect();
-    (bytes, lines.last().unwrap().rsplit("  ").next().unwrap().trim_start())
-}
-
-/// The card begins as it is printed; all behind what is printed is zero, and the words say how many bytes that are.
-fn card_is_printed(card: &Row, name: &str) {
-    let (shown, words) = piece(name);
-    let bytes: Vec<u8> = card.iter().flat_map(|word| word.to_le_bytes()).collect();
-    // The last of those that are shown is the first zero.
-    let rest = bytes[shown.len() - 1..].to_vec();
-    assert!(bytes.starts_with(&shown), "{name}: {bytes:?}");
-    assert!(rest.iter().all(|byte| *byte == 0), "{name}: {bytes:?}");
-    assert!(words.ends_with(&format!("{} zeros", rest.len())), "{name}: {words}");
-}
-
-#[test]
-fn a_link_is_as_printed() {
-    let memory = printed();
-    let view = Store::open_owned(memory.clone()).unwrap().view();
-    let table = &view.levels[1][0];
-    let link = Link { place: 1, low: Key::LEAST, high: Key::GREATEST, number: 2 };
-    assert_eq!((&table.links[..], table.weight(), view.is_due(table)), (&[link][..], 2, false));
-    card_is_printed(&memory.cards[0], "card 0");
-    card_is_printed(&memory.cards[1], "card 1");
-    let lists: Vec<u8> = memory.lists.iter().flat_map(|item| item.to_le_bytes()).collect();
-    assert!(lists.starts_with(&piece("list 0").0));
-    assert_eq!(size_of::<Row>(), 34 * 8);
-    assert!(PAGE.contains("| cards | P rows of 34 words |"));
-    assert!(PAGE.contains("| 3 cards | `zilgwern_card *`, 34 words each |"));
-}
-
-/// A row of the table of damages: where it stands in a store file, the bytes there before and after, and the rule told.
-fn damage(row: &str) -> (usize, Vec<u8>, Vec<u8>, Rule) {
-    let cells: Vec<&str> = row.trim_matches(['|', ' ']).split(" | ").collect();
-    let [changed, from, to, _, letter] = cells[..] else { panic!("{row}") };
-    let (piece, at) = changed.split_once(", ").unwrap();
-    let (piece, number) = piece.split_once(' ').unwrap_or((piece, "0"));
-    let (number, head): (usize, usize) = (number.parse().unwrap(), 32 * (1024 + 34 * 8 + 8));
-    let starts = match piece {
-        "place" => 1024 * number,
-        "card" => 32 * 1024 + 34 * 8 * number,
-        "head" => head,
-        "memory" => head + 80,
-        _ => panic!("{row}"),
-    };
-    let (unit, at) = at.split_once(' ').unwrap();
-    // Bytes are in hexadecimal.
-    let (size, base) = if unit == "word" { (8, 10) } else { (1, 16) };
-    let bytes = |cell: &str| {
-        let number = u64::from_str_radix(cell.trim_matches('`'), base).unwrap();
-        number.to_le_bytes()[..size].to_vec()
-    };
-    let rule = Rule::ALL.into_iter().find(|rule| letter == rule.letter().to_string());
-    (starts + size * at.parse::<usize>().unwrap(), bytes(from), bytes(to), rule.unwrap())
-}
-
-#[test]
-fn the_damaged_store_gives_the_letters_as_printed() {
-    let (_, rows) =
-        PAGE.split_once("| Changed | From | To | | Letter |\n|---|---|---|---|---|\n").unwrap();
-    let damages: Vec<_> = rows.lines().take_while(|row| !row.is_empty()).map(damage).collect();
-    let mut bytes = printed().to_bytes();
-    for (at, from, to, _) in &damages {
-        let changed = &mut bytes[*at..][..from.len()];
-        assert_eq!(changed, from);
-        changed.copy_from_slice(to);
-    }
-    let refused = |bytes: &[u8]| Store::open_owned(Memory::from_bytes(bytes).unwrap()).err();
-    for (at, from, _, rule) in &damages {
-        assert_eq!(refused(&bytes), Some(Error::Refused(Refused::NotSound(*rule))));
-        bytes[*at..][..from.len()].copy_from_slice(from);
-    }
-    assert_eq!(refused(&bytes), None);
-    assert!(damages.iter().map(|(.., rule)| *rule).eq(Rule::ALL));
-}
-
-/// Where the pieces of a store file begin, and with 32 places.
-#[test]
-fn a_store_file_is_as_printed() {
-    let row = size_of::<Row>();
-    let each = [0, 1024, 1024 + row, 1024 + row + 8, 1024 + row + 8, 1024 + row + 8];
-    let fixed = [0, 0, 0, 0, 80, 80 + 1024];
-    for (name, (each, fixed)) in ["area", "cards", "lists", "head", "memory", "form"]
-        .into_iter()
-        .zip(each.into_iter().zip(fixed))
-    {
-        let starts = match (each, fixed) {
-            (0, 0) => "0".into(),
-            (_, 0) => format!("{} P", written(each)),
-            _ => format!("{} P + {}", written(each), written(fixed)),
-        };
-        let line = format!("\n| {name} | {starts} | {} |", written(32 * each + fixed));
-        assert!(PAGE.contains(&line), "{line}");
-    }
-    assert_eq!(Memory::byte_count(32), 32 * (1024 + row + 8) + 80 + 1024 + 8);
-    assert!(PAGE.contains(&format!("| {} |\n\nA file", written(Memory::byte_count(32)))));
-}
-
 /// A line of the table of limits.
 fn limit(what: &str) -> &'static str {
     let line = PAGE.lines().find(|line| line.starts_with(&format!("| {what} | ")));
     line.expect(what).split(" | ").nth(1).unwrap().trim_end_matches(" |")
-}
-
-/// A number with commas between thousands.
-fn written(number: usize) -> String {
-    match number {
-        0..1000 => number.to_string(),
-        _ => format!("{},{:03}", written(number / 1000), number % 1000),
-    }
 }
 
 #[test]
@@ -256,7 +163,11 @@ fn limits_are_those_of_the_wrapper() {
     assert_eq!(limit("request list"), format!("0 to {} bytes", written(LIST_BYTES)));
     assert_eq!(limit("answer buffer"), format!("{} bytes or more", written(ANSWER_ROOM)));
     assert_eq!(limit("values of one scan"), format!("0 to {SCAN_VALUES}"));
-    let (fixed, each) = (Memory::byte_count(0), Memory::byte_count(1) - Memory::byte_count(0));
+    let most = written(3 * TABLE_ENTRIES);
+    let bits = format!("{} bits; of a live or frozen one 1 to {most} of them set,", Summary::BITS);
+    assert!(limit("summary of a card").starts_with(&bits));
+    let fixed = Memory::form_2_byte_count(0);
+    let each = Memory::form_2_byte_count(1) - fixed;
     assert!(PAGE.contains(&format!("(length - {}) / {}.", written(fixed), written(each))));
     assert!(PAGE.contains(&format!("| end | {} P + {} |", written(each), written(fixed))));
 }
@@ -276,6 +187,10 @@ fn the_readme_and_the_header_say_the_same() {
     assert_eq!(defined("ANSWER_ROOM "), ANSWER_ROOM);
     let places = defined("LEAST_PLACES ")..=defined("MOST_PLACES ");
     assert_eq!(places, PLACES);
+    assert_eq!(defined("TABLE_ENTRIES "), TABLE_ENTRIES);
+    assert_eq!(8 * defined("SUMMARY_BYTES "), Summary::BITS);
+    assert!(HEADER.contains("sizeof(zilgwern_card) == 304, \"a card is 38 words of 64 bits\""));
+    assert_eq!(size_of::<Row>(), 304);
 }
 
 /// The letters and the numbers of refusals are all there, each with its line.

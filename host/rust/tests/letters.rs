@@ -55,7 +55,9 @@ const ALONE: [(char, Damage); 7] = [
     // A copy of a good table, frozen, to which no link leads.
     ('F', |lent| {
         lent.area.copy_within(1024..2048, 10 * 1024);
+        lent.cards[10] = [0; 38];
         lent.cards[10][0] = 2;
+        lent.cards[10][34] = 1 << 4 | 1 << 8;
     }),
     // The flag of a mark is neither 0 nor 1.
     ('G', |lent| lent.head[4] = 2),
@@ -81,7 +83,7 @@ fn of_any_rules_that_are_broken_the_first_is_told() {
 /// Damage that breaks two or three rules, then each letter that comes and how it is mended, up to a sound store.
 type Walk = (Damage, &'static [(char, Damage)]);
 
-const WALKS: [Walk; 5] = [
+const WALKS: [Walk; 7] = [
     (
         // Zeros are no threshold and no memory table.
         |lent| *lent = Memory::zeroed(16),
@@ -101,6 +103,8 @@ const WALKS: [Walk; 5] = [
         &[
             ('B', |lent| (lent.lists[2], lent.head[6]) = (9, 3)),
             ('C', |lent| lent.area.copy_within(2048..3072, 9 * 1024)),
+            // The table is good now, and its card has no bits.
+            ('C', |lent| lent.cards[9][34..].copy_from_slice(&[1 << 6, 0, 0, 0])),
         ],
     ),
     (
@@ -119,6 +123,26 @@ const WALKS: [Walk; 5] = [
             ('E', |lent| lent.cards[0][1] = 0),
             ('F', |lent| lent.cards[1][0] = 0),
             ('G', |lent| lent.cards[0][2..6].fill(0)),
+            // The bits of the place that was freed by hand are left over too.
+            ('G', |lent| lent.cards[1][34..].fill(0)),
+        ],
+    ),
+    (
+        // Wrong bits on a live card, keys in memory of no table, and a wrong number of a link.
+        |lent| (lent.cards[2][37], lent.memory[4], lent.cards[0][5]) = (1 << 63, 1, 3),
+        &[
+            ('C', |lent| lent.cards[2][37] = 0),
+            ('D', |lent| lent.memory[4] = 0),
+            ('E', |lent| lent.cards[0][5] = 2),
+        ],
+    ),
+    (
+        // A state above 2, with bits, comes before wrong bits elsewhere; free, its bits are wrong for another reason.
+        |lent| (lent.cards[9][0], lent.cards[9][34], lent.cards[1][36]) = (3, 1, 1),
+        &[
+            ('B', |lent| lent.cards[9][0] = 0),
+            ('C', |lent| lent.cards[1][36] = 0),
+            ('G', |lent| lent.cards[9][34] = 0),
         ],
     ),
 ];
@@ -135,7 +159,7 @@ fn mended_rule_by_rule_the_next_letter_comes() {
         assert_eq!(letter(&lent), None, "{mends:?}");
     }
     let letters = WALKS.map(|(_, mends)| mends.iter().map(|(told, _)| *told).collect::<String>());
-    assert_eq!(letters, ["AD", "AE", "BC", "CDG", "EFG"]);
+    assert_eq!(letters, ["AD", "AE", "BCC", "CDG", "EFGG", "CDE", "BCG"]);
 }
 
 /// Who sorts stores by the first broken rule gets the order A to G.

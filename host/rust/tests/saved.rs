@@ -87,7 +87,7 @@ fn what_is_saved_is_opened_as_it_was_and_saved_as_the_same_bytes() {
         counts.iter().zip(&mut reached).for_each(|(count, sum)| *sum += count);
         // Whatever the lent book and the free places hold.
         let mut memory = before.clone();
-        memory.cards.fill([0xA5; 34]);
+        memory.cards.fill([0xA5; 38]);
         memory.lists.fill(0xA5);
         (memory.head, memory.memory) = ([0xA5; 10], [0xA5; 1024]);
         let mut working = memory.cards.clone();
@@ -126,12 +126,12 @@ fn refusals_of_saving_and_opening_are_named() {
     let mut memory = store.memory();
     let before = memory.clone();
     // As many working rows as cards.
-    let few = Store::open_saved(memory.lend(), &book, &mut [[0; 34]; 31]).err();
+    let few = Store::open_saved(memory.lend(), &book, &mut [[0; 38]; 31]).err();
     assert_eq!(few, Some(Error::Refused(Refused::Sizes)));
     assert_eq!(memory, before);
     memory.head[0] = 9;
     let before = memory.clone();
-    let refused = Store::open_saved(memory.lend(), &book[..100], &mut [[0; 34]; 32]).err();
+    let refused = Store::open_saved(memory.lend(), &book[..100], &mut [[0; 38]; 32]).err();
     assert_eq!(refused, Some(Error::Refused(Refused::NotABook)));
     assert_eq!(memory, before, "a refusal changes nothing");
 }

@@ -5,11 +5,16 @@
 pub const CARD_LINKS: usize = 8;
 pub const LINK_WORDS: usize = 4;
 
-/// Where the links begin in a row, and the words of a row.
-pub const ROW_LINKS: usize = 2;
-pub const ROW_WORDS: usize = ROW_LINKS + CARD_LINKS * LINK_WORDS;
+/// Bytes of a card's summary; bit n is bit n mod 8 of byte n / 8.
+pub const SUMMARY_BYTES: usize = 32;
 
-/// The row of a card: state (0 free, 1 live, 2 frozen), link count, then the links.
+/// Where the links and the summary begin in a row, and the words of a row.
+pub const ROW_LINKS: usize = 2;
+pub const ROW_SUMMARY: usize = ROW_LINKS + CARD_LINKS * LINK_WORDS;
+pub const ROW_WORDS: usize = ROW_SUMMARY + SUMMARY_BYTES / size_of::<u64>();
+
+/// The row of a card: state (0 free, 1 live, 2 frozen), link count, the links, then the summary: eight of its bytes to a word, the
+/// lowest in the lowest bits.
 pub type Row = [u64; ROW_WORDS];
 
 /// Threshold, cursor, flag and key of the marks of levels 1 and 2, then the lengths of four lists.

@@ -17,7 +17,8 @@ Usage: state SEED COUNT [deletes]
 Serves requests on a new store of 16 places and prints a line each for: threshold, list, answers,
 area, cards, lists, head and memory. Then follows what no answer says: how many merges were due by
 weight alone (weighed), and of levels 1 and 2 each how many delete marks merges dropped, how many
-they kept, and how many merges left nothing (marks). A line is a name and numbers.
+they kept, and how many merges left nothing (marks). A line is a name and numbers. A card has 38 of
+them: state, link count, four for each of eight links, and the four words of its summary.
 
 The requests are COUNT random ones, the same for the same SEED; with `deletes` most are deletes of
 few keys. The list `descent` is always the same: delete marks stay on level 1 and go on level 2.";

@@ -3,7 +3,8 @@
 
 use crate::lent::*;
 use crate::limits::{CARD_LINKS, ENTRY_BYTES, LEVELS, PLACE_BYTES, TABLE_ENTRIES};
-use crate::table::Key;
+use crate::summary::summary_of;
+use crate::table::{read_table, Key};
 
 /// Things after their count, which may be a wrong one.
 #[derive(Clone, PartialEq, Eq, Debug, Default)]
@@ -128,7 +129,7 @@ impl Book {
     }
 
     /// The store as opened over an area of at least as many places, which may well not be sound; none of the fields is wrong in
-    /// itself.
+    /// itself. The bits of live and frozen cards are those of the tables in the area.
     pub fn opened(&self, area: &[u8]) -> Lent {
         let places = area.len() / PLACE_BYTES;
         let mut lent = Lent::zeroed(places);
@@ -143,11 +144,15 @@ impl Book {
             flag_2.into(),
             key_2,
         ]);
-        for (row, card) in lent.cards.iter_mut().zip(&self.cards) {
+        for (place, (row, card)) in lent.cards.iter_mut().zip(&self.cards).enumerate() {
             row[..2].copy_from_slice(&[card.state.into(), card.links.count.into()]);
             for (link, (place, low, high, number)) in card.links.items.iter().enumerate() {
                 let words = [u64::from(*place), *low, *high, u64::from(*number)];
                 row[2 + 4 * link..][..4].copy_from_slice(&words);
+            }
+            let bytes = &area[place * PLACE_BYTES..][..PLACE_BYTES];
+            if let Some(table) = read_table(bytes, 1).filter(|_| card.state != 0) {
+                put_summary(row, &summary_of(table.iter().map(|(key, _)| *key)));
             }
         }
         for (level, list) in self.lists.iter().enumerate() {
@@ -169,7 +174,8 @@ fn card(lent: &Lent, place: usize) -> Option<Card> {
         return None;
     }
     let link = |words: &[u64]| Some((narrow(words[0])?, words[1], words[2], narrow(words[3])?));
-    let links = row[2..].chunks(4).take(row[1] as usize).map(link).collect::<Option<_>>()?;
+    let links =
+        row[2..ROW_SUMMARY].chunks(4).take(row[1] as usize).map(link).collect::<Option<_>>()?;
     Some(Card { state: row[0] as u16, links: Counted::of(links) })
 }
 

@@ -1,11 +1,12 @@
-//! Damage to stores: named ways to break each of the rules A to G. What breaks links is in `damaged_links`.
+//! Damage to stores: named ways to break each of the rules A to G. What breaks links is in `damaged_links`, what makes bits wrong
+//! in `damaged_bits`.
 //!
 //! Several can be planted in one store, one after the other, and whatever else was done to it. Each leaves wrong what it touches,
 //! and where that takes a spot that is as it should be, it asks for one; so none mends what another of its rule has broken.
 
 use super::damaged_links::{any_link, next_link};
 use super::random::Random;
-use super::{damaged_links, damaged_numbers};
+use super::{damaged_bits, damaged_links, damaged_numbers};
 use crate::lent::*;
 use crate::limits::{ENTRY_BYTES, LEVELS, PLACE_BYTES, TABLE_HEAD, VALUE_BYTES};
 use crate::rules::Rule;
@@ -33,7 +34,8 @@ pub(super) const fn mixed(rule: Rule, name: &'static str, plant: Plant) -> Damag
 
 /// Every rule in several ways.
 pub fn damages() -> impl Iterator<Item = &'static Damage> {
-    DAMAGES.iter().chain(damaged_links::DAMAGES).chain(damaged_numbers::DAMAGES)
+    let of_links = damaged_links::DAMAGES.iter().chain(damaged_numbers::DAMAGES);
+    DAMAGES.iter().chain(of_links).chain(damaged_bits::DAMAGES)
 }
 
 const DAMAGES: &[Damage] = &[
@@ -120,6 +122,8 @@ const DAMAGES: &[Damage] = &[
         let free = any_place(lent, random, STATE_FREE)?;
         let live = any_place(lent, random, STATE_LIVE)?;
         lent.area.copy_within(live * PLACE_BYTES..(live + 1) * PLACE_BYTES, free * PLACE_BYTES);
+        let summary = lent.summary(live);
+        put_summary(&mut lent.cards[free], &summary);
         set_card(lent, free, ROW_STATE, STATE_FROZEN)
     }),
     alone(Rule::F, "last link taken away", |lent, random| {
@@ -128,7 +132,7 @@ const DAMAGES: &[Damage] = &[
         let links = (0..lent.cards.len()).flat_map(|place| lent.links(place));
         let named = links.filter(|link| link[LINK_PLACE] == frozen).count();
         ((lent.cards[place][ROW_COUNT], named) == (1, 1)).then_some(())?;
-        lent.cards[place][ROW_COUNT..].fill(0);
+        lent.cards[place][ROW_COUNT..ROW_SUMMARY].fill(0);
         Some(())
     }),
     alone(Rule::G, "two tables in the wrong order", |lent, random| {
@@ -152,7 +156,7 @@ const DAMAGES: &[Damage] = &[
     alone(Rule::G, "word beyond a card's links", |lent, random| {
         let place = random.below(lent.cards.len());
         next_link(lent, place)?;
-        set_card(lent, place, ROW_WORDS - 1, 1)
+        set_card(lent, place, ROW_SUMMARY - 1, 1)
     }),
     alone(Rule::G, "item beyond a list's length", |lent, random| {
         let level = random.below(4);

@@ -1,7 +1,7 @@
 //! The way of delete marks down to level 2, as a list for a new store of 16 places: marks stay at a
 //! merge on level 1 and go at one on level 2. Random lists that do so are several times as long.
 
-use super::requests::{delete, flush, look_up, put, report, scan, tidy};
+use super::requests::{delete, flush, look_up, probe, put, report, scan, tidy, twin};
 use crate::table::Key;
 
 /// With this threshold a second link makes a table due, however light.
@@ -33,13 +33,16 @@ pub fn descent() -> Vec<u8> {
     list.extend(load([put(16 * FULL, b"v")], 2));
     list.extend(load([put(16 * FULL + 1, b"v")], 2));
     list.extend(load(DELETED.chain([BESIDE]).map(delete), 1));
+    // The first of the two links is there.
+    list.push(probe(16 * FULL));
     // With the ninth, level 1 gives its first table to level 2.
     list.extend(load((1..=FULL).map(|table| put(16 * table + 5, b"w")), 3));
-    list.extend([look_up(0), look_up(BESIDE)]);
+    list.extend([look_up(0), look_up(BESIDE), probe(0), probe(BESIDE), probe(37), probe(twin(37))]);
     // The deletes are linked and merged on level 1. Then every table behind the mark gains a link,
     // so that the choice goes round to the one with the delete marks. It is linked and merged.
     list.extend(load([put(900, b"")], 0));
     list.extend(load([put(901, b"")], 5));
     list.extend([look_up(0), look_up(15), look_up(BESIDE), scan(0, Key::MAX), report()]);
+    list.extend([probe(0), probe(15), probe(BESIDE), probe(900), probe(twin(900))]);
     list.concat()
 }

@@ -26,7 +26,6 @@ pub fn full(random: &mut Random, places: usize) -> Store {
         for place in first + LIVE..first + LIVE + FROZEN {
             let low = (group * LIVE) as Key * PLOT;
             let table = spread(random, low, PLOT * LIVE as Key / TABLE_ENTRIES as Key);
-            store.write_bytes(place, &table);
             for on in 0..LIVE {
                 let low = low + on as Key * PLOT;
                 let high = low + PLOT - 1;
@@ -35,7 +34,7 @@ pub fn full(random: &mut Random, places: usize) -> Store {
                     links.push(Link { place, low, high, number });
                 }
             }
-            store.places[place] = Place::Frozen { table };
+            store.settle_frozen(place, table);
         }
     }
     store
@@ -60,8 +59,7 @@ pub fn most_links(random: &mut Random, places: usize) -> Store {
                 links.extend(own.iter().map(link));
             }
         }
-        store.write_bytes(place, &frozen);
-        store.places[place] = Place::Frozen { table: frozen };
+        store.settle_frozen(place, frozen);
     }
     let value = |random: &mut Random| Entry::Value(random.bytes(VALUE_BYTES));
     store.memory = (0..TABLE_ENTRIES).map(|key| (key as Key, value(random))).collect();

@@ -7,8 +7,10 @@ use super::random::{any_lent, Random};
 use super::saving::MISSHAPES;
 use super::spoiled::SPOILS;
 use crate::implementation::Implementation;
-use crate::lent::{Lent, Row, HEAD_CURSOR, ROW_FREE, ROW_WORDS};
+use crate::lent::*;
 use crate::limits::{PLACES, PLACE_BYTES};
+use crate::summary::NO_BITS;
+use crate::table::read_table;
 
 /// An opening and what must come of it.
 pub struct Opening {
@@ -92,6 +94,9 @@ impl Opening {
         lent.area[..common].copy_from_slice(&self.lent.area[..common]);
         self.lent = lent;
         self.names.push(format!("opening, places: {name}"));
+        if leave_former_table(&mut self.lent, book).is_some() {
+            self.names.push(FORMER.into());
+        }
         // A form that is wrong in its number of places says nothing of fewer ones.
         if places < usize::from(book.places) {
             self.reasons.push(22);
@@ -126,17 +131,42 @@ impl Opening {
     }
 }
 
-/// The store with planned damage that the form can carry whole, and its letter; mostly none.
+/// A free place of the area holds a table, which must not give its card bits.
+const FORMER: &str = "opening, area: a table in a free place";
+
+/// Copies a live place's bytes to a free place, by the cards of the book.
+fn leave_former_table(lent: &mut Lent, book: &Book) -> Option<()> {
+    let first = |state: u64| {
+        let cards = book.cards.iter().take(lent.cards.len());
+        cards.into_iter().position(|card| u64::from(card.state) == state)
+    };
+    let (live, free) = (first(STATE_LIVE)?, first(STATE_FREE)?);
+    lent.area.copy_within(live * PLACE_BYTES..(live + 1) * PLACE_BYTES, free * PLACE_BYTES);
+    Some(())
+}
+
+/// The store with planned damage that the form can carry whole, and its letter; mostly none. It carries no bits, so none may be
+/// damaged; but a card whose place holds no table any more is opened without bits, and refused by the same letter.
 fn damaged(sound: &Lent, random: &mut Random) -> (Option<Lent>, u8) {
     if !random.once_in(2) {
         return (None, 0);
     }
     let mut lent = sound.clone();
     let plan = Plan::plant(&mut lent, random);
+    clear_bits_without_table(&mut lent);
     let carried = Book::of(&lent).is_some_and(|book| book.opened(&lent.area) == lent);
     match carried {
         true => (Some(lent), plan.says().1),
         false => (None, 0),
+    }
+}
+
+fn clear_bits_without_table(lent: &mut Lent) {
+    for place in 0..lent.cards.len() {
+        if lent.cards[place][ROW_STATE] != STATE_FREE && read_table(lent.place(place), 1).is_none()
+        {
+            put_summary(&mut lent.cards[place], &NO_BITS);
+        }
     }
 }
 
@@ -201,5 +231,6 @@ pub fn required() -> Vec<String> {
     names.extend(('A'..='G').map(|letter| format!("opening, 5: letter {letter}")));
     let places = ["fewer", "one fewer", "as many", "one more", "twice as many", "4,096"];
     names.extend(places.map(|name| format!("opening, places: {name}")));
+    names.push(FORMER.into());
     names
 }

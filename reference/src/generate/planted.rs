@@ -187,9 +187,8 @@ impl Garden<'_> {
             }
             if !table.is_empty() {
                 self.add_unseen(&mut table);
-                self.store.write_bytes(place, &table);
                 self.number_links(place, &table);
-                self.store.places[place] = Place::Frozen { table };
+                self.store.settle_frozen(place, table);
                 self.ground.pop();
             }
         }

@@ -11,6 +11,7 @@ pub struct Profile {
     pub name: &'static str,
     pub puts: usize,
     pub deletes: usize,
+    /// Half of them as probes.
     pub look_ups: usize,
     pub scans: usize,
     pub flushes: usize,
@@ -100,7 +101,7 @@ impl Source {
         let makers: [(usize, Maker); 9] = [
             (profile.puts, Source::put),
             (profile.deletes, |_, key| requests::delete(key)),
-            (profile.look_ups, |_, key| requests::look_up(key)),
+            (profile.look_ups, Source::read),
             (profile.scans, Source::scan),
             (profile.flushes, |_, _| requests::flush()),
             (profile.tidies, |_, _| requests::tidy()),
@@ -134,6 +135,16 @@ impl Source {
 
     fn put(&mut self, key: u64) -> Vec<u8> {
         requests::put(key, &self.lengths.value(&mut self.random))
+    }
+
+    /// A look-up or a probe, some of the latter of a key with the bits of another one. Drawn without taking a number away, so that
+    /// all that follows is the same for each.
+    fn read(&mut self, key: u64) -> Vec<u8> {
+        match self.random.clone().below(8) {
+            0..=3 => requests::look_up(key),
+            4..=6 => requests::probe(key),
+            _ => requests::probe(requests::twin(key)),
+        }
     }
 
     /// A scan from the key: up to another one, over all keys, or over this key alone.

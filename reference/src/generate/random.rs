@@ -1,6 +1,6 @@
 //! A small seeded generator of numbers (splitmix64), so that every test run is the same.
 
-use crate::lent::Lent;
+use crate::lent::{Lent, ROW_SUMMARY};
 
 /// The state of the generator.
 #[derive(Clone, Debug)]
@@ -49,12 +49,17 @@ pub fn mix(number: u64) -> u64 {
     twice ^ (twice >> 31)
 }
 
-/// Lent memory of so many places and any content.
+/// Lent memory of so many places and any content. The summaries come from the words before them, so that what is drawn after this is
+/// what it was before there were any.
 pub fn any_lent(random: &mut Random, places: usize) -> Lent {
     let mut lent = Lent::zeroed(places);
     lent.area = random.bytes(lent.area.len());
-    let words = lent.cards.iter_mut().flatten().chain(lent.head.iter_mut());
-    words.for_each(|word| *word = random.word());
+    let rows = lent.cards.iter_mut().flat_map(|row| &mut row[..ROW_SUMMARY]);
+    rows.chain(lent.head.iter_mut()).for_each(|word| *word = random.word());
+    for row in &mut lent.cards {
+        let drawn = *row;
+        row[ROW_SUMMARY..].iter_mut().zip(drawn).for_each(|(word, other)| *word = mix(other));
+    }
     lent.lists.fill_with(|| random.word() as u16);
     lent.memory.fill_with(|| random.word() as u8);
     lent

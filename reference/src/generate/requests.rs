@@ -38,6 +38,16 @@ pub fn report() -> Vec<u8> {
     request(7, &[])
 }
 
+pub fn probe(key: Key) -> Vec<u8> {
+    request(8, &key.to_le_bytes())
+}
+
+/// Another key with the same three summary bits. Turning a byte's highest bit changes it by 128 modulo 256; done to bytes 0 and 2,
+/// it leaves the exclusive or as it is, and changes the sum by 2 times 128, and that of bytes times i + 1 by (1 + 3) times 128.
+pub fn twin(key: Key) -> Key {
+    key ^ 0x80_00_80
+}
+
 /// How long the values of a store or a source of requests are.
 #[derive(Clone, Copy, PartialEq, Eq, Debug)]
 pub enum Lengths {
@@ -79,7 +89,7 @@ pub fn refused(random: &mut Random) -> Vec<u8> {
     let key = random.word();
     match random.below(4) {
         0 => {
-            let kind = *random.pick(&[0, 8, 9, 99, 256, 257, u16::MAX]);
+            let kind = *random.pick(&[0, 9, 10, 99, 256, 264, u16::MAX]);
             let length = random.below(30);
             request(kind, &random.bytes(length))
         }
@@ -94,7 +104,10 @@ pub fn refused(random: &mut Random) -> Vec<u8> {
                 (6, &[1, 2, 8]),
                 (7, &[1, 2, 16]),
             ];
+            // Kinds 3 and 8 have bodies of one length.
+            let as_probe = random.clone().once_in(2);
             let (kind, lengths) = *random.pick(&lengths);
+            let kind = if kind == 3 && as_probe { 8 } else { kind };
             let length = *random.pick(lengths);
             request(kind, &random.bytes(length))
         }

@@ -1,9 +1,10 @@
-//! Small stores sketched by hand, place by place, and what one tidy must make of them to the byte:
+//! Small stores sketched by hand, place by place, and what one tidy or flush must make of them to the byte:
 //! for tests whose expectations are written out. Nothing here asks the rules or the decoded store.
 
-use super::requests::{look_up, scan, tidy};
+use super::requests::{flush, look_up, scan, tidy};
 use crate::implementation::{Implementation, Ran};
 use crate::lent::*;
+use crate::summary::summary_of;
 use crate::table::{table_bytes, Entries, Entry, Key};
 use crate::trial::{Eyes, Trial, UNTOUCHED};
 
@@ -13,13 +14,17 @@ pub struct Sketch {
     lent: Lent,
 }
 
-/// Entries from words: `7` is a value under 7, which is the digits; `x7` is a delete mark under 7.
+/// Entries from words: `7` is a value under 7, which is the digits; `x7` is a delete mark under 7, `e7` an empty value.
 fn entries(words: &str) -> Entries {
     let entry = |word: &str| {
-        let digits = word.trim_start_matches('x');
+        let digits = word.trim_start_matches(['x', 'e']);
         let key: Key = digits.parse().expect("a key in digits");
-        let value = || Entry::Value(digits.as_bytes().to_vec());
-        (key, if word.starts_with('x') { Entry::DeleteMark } else { value() })
+        let entry = match word.as_bytes()[0] {
+            b'x' => Entry::DeleteMark,
+            b'e' => Entry::Value(Vec::new()),
+            _ => Entry::Value(digits.as_bytes().to_vec()),
+        };
+        (key, entry)
     };
     words.split_whitespace().map(entry).collect()
 }
@@ -31,6 +36,23 @@ impl Sketch {
         lent.head[HEAD_THRESHOLD] = threshold;
         lent.memory = table_bytes(&Entries::new());
         Sketch { lent }
+    }
+
+    pub fn memory(mut self, words: &str) -> Sketch {
+        self.lent.memory = table_bytes(&entries(words));
+        self
+    }
+
+    /// The mark of level 1 or 2.
+    pub fn mark(mut self, level: usize, key: Key) -> Sketch {
+        let flag = HEAD_MARKS + 2 * (level - 1);
+        self.lent.head[flag..flag + 2].copy_from_slice(&[1, key]);
+        self
+    }
+
+    /// The lent memory as sketched.
+    pub fn lent(self) -> Lent {
+        self.lent
     }
 
     pub fn cursor(mut self, cursor: u64) -> Sketch {
@@ -52,14 +74,19 @@ impl Sketch {
         let length = &mut next.lent.head[HEAD_LENGTHS + level];
         next.lent.lists[level * places + *length as usize] = place as u16;
         *length += 1;
-        next.lent.cards[place][ROW_STATE] = STATE_LIVE;
-        next
+        next.card(place, STATE_LIVE, words)
     }
 
     pub fn frozen(self, place: usize, words: &str) -> Sketch {
-        let mut next = self.former(place, words);
-        next.lent.cards[place][ROW_STATE] = STATE_FROZEN;
-        next
+        self.former(place, words).card(place, STATE_FROZEN, words)
+    }
+
+    /// State and bits of a card.
+    fn card(mut self, place: usize, state: u64, words: &str) -> Sketch {
+        let card = &mut self.lent.cards[place];
+        card[ROW_STATE] = state;
+        put_summary(card, &summary_of(entries(words).into_keys()));
+        self
     }
 
     /// A link on the card of a live place: frozen place, low, high and number.
@@ -72,10 +99,11 @@ impl Sketch {
     }
 }
 
-/// One tidy: the store before it, its reply and the store after it, all by hand; and look-ups that
+/// One tidy or flush: the store before it, its reply and the store after it, all by hand; and look-ups that
 /// are answered alike before and after.
 pub struct Case {
     before: Lent,
+    request: Vec<u8>,
     reply: Vec<u8>,
     after: Lent,
     /// Requests with their replies.
@@ -83,16 +111,29 @@ pub struct Case {
 }
 
 impl Case {
+    fn of(request: Vec<u8>, reply: &[u8], before: Sketch, after: Sketch) -> Case {
+        let (before, reply, after) = (before.lent, reply.to_vec(), after.lent);
+        Case { before, request, reply, after, reads: Vec::new() }
+    }
+
+    /// A tidy that moves, links or merges (1, 2 or 3) a table of this level.
+    pub fn tidied(step: u8, level: usize, before: Sketch, after: Sketch) -> Case {
+        Case::of(tidy(), &[10, 0, 6, 0, 0, 0, step, 0, level as u8, 0], before, after)
+    }
+
     /// A tidy that merges a table of this level.
     pub fn merged(level: usize, before: Sketch, after: Sketch) -> Case {
-        let reply = vec![10, 0, 6, 0, 0, 0, 3, 0, level as u8, 0];
-        Case { before: before.lent, reply, after: after.lent, reads: Vec::new() }
+        Case::tidied(3, level, before, after)
     }
 
     /// A tidy that is refused with 20 and changes nothing.
     pub fn refused(store: Sketch) -> Case {
-        let (before, after) = (store.lent.clone(), store.lent);
-        Case { before, reply: vec![6, 0, 6, 0, 20, 0], after, reads: Vec::new() }
+        Case::of(tidy(), &[6, 0, 6, 0, 20, 0], store.clone(), store)
+    }
+
+    /// A flush that is done.
+    pub fn flushed(before: Sketch, after: Sketch) -> Case {
+        Case::of(flush(), &[6, 0, 5, 0, 0, 0], before, after)
     }
 
     /// Keys that no look-up finds a value under.
@@ -122,7 +163,7 @@ impl Case {
             }
         }
         let (asked, answered): (Vec<_>, Vec<_>) = self.reads.iter().cloned().unzip();
-        let list = [asked.concat(), tidy(), asked.concat()].concat();
+        let list = [asked.concat(), self.request.clone(), asked.concat()].concat();
         let expected = [answered.concat(), self.reply.clone(), answered.concat()].concat();
         let mut answers = vec![UNTOUCHED; 1024 + expected.len()];
         let mut lent = self.before.clone();

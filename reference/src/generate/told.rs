@@ -1,7 +1,7 @@
 //! A small saved book, written out by hand, and what opening it says with any one byte changed to any other: told field by field,
 //! without the rules and without `saved`.
 
-use crate::lent::Lent;
+use crate::lent::{Lent, Row, ROW_SUMMARY};
 use crate::limits::PLACE_BYTES;
 use crate::table::{table_bytes, Entries, Entry};
 
@@ -51,7 +51,7 @@ pub fn area() -> Vec<u8> {
     area
 }
 
-/// The lent memory of the small store: the words that its book says.
+/// The lent memory of the small store: the words that its book says, and the bits of its tables.
 pub fn store() -> Lent {
     let mut lent = Lent::zeroed(PLACES);
     lent.area = area();
@@ -60,10 +60,18 @@ pub fn store() -> Lent {
     lent.cards[1][..6].copy_from_slice(&[1, 1, 3, 10, 20, 2]);
     lent.cards[2][..6].copy_from_slice(&[1, 1, 3, 30, 40, 1]);
     lent.cards[3][0] = 2;
+    for (place, keys) in [(0, &[5, 6][..]), (1, &[10, 20]), (2, &[30, 40]), (3, &[12, 15, 35])] {
+        lent.cards[place][ROW_SUMMARY] = bits_below_64(keys);
+    }
     lent.lists[PLACES..PLACES + 2].copy_from_slice(&[1, 2]);
     let value = |key: u8| Entry::Value(vec![b'0' + key]);
     lent.memory = table_bytes(&[8, 9].map(|key| (u64::from(key), value(key))).into());
     lent
+}
+
+/// The first word of a summary of keys below 64: each of its three bits is the key itself, since its other bytes are zero.
+fn bits_below_64(keys: &[u32]) -> u64 {
+    keys.iter().fold(0, |bits, key| bits | 1 << key)
 }
 
 const ACCEPTED: (u16, u8) = (0, 0);
@@ -158,6 +166,21 @@ pub const AREAS: [Area; 17] = [
     ("zero", |area| area.fill(0), (5, b'C')),
     ("a live and a frozen place exchanged", |area| exchange(area), (5, b'E')),
 ];
+
+/// Of the areas that are accepted, those in which a live or frozen place has other keys, with these.
+const REKEYED: [(&str, usize, &[u32]); 2] = [
+    ("a live place's key changed within its level", 1, &[10, 29]),
+    ("a frozen place's key changed within its range", 3, &[12, 16, 35]),
+];
+
+/// The cards of the small store as opened over one of these areas: bits go by the area's keys, all else by the book.
+pub fn cards_over(name: &str) -> Vec<Row> {
+    let mut cards = store().cards;
+    for (_, place, keys) in REKEYED.iter().filter(|(rekeyed, ..)| *rekeyed == name) {
+        cards[*place][ROW_SUMMARY] = bits_below_64(keys);
+    }
+    cards
+}
 
 fn change(area: &mut [u8], place: usize, byte: usize, value: u8) {
     area[place * PLACE_BYTES + byte] = value;

@@ -50,7 +50,7 @@ impl Garden<'_> {
         self.random.shuffle(&mut keys);
         keys.truncate(own);
         let entries: Entries = keys.into_iter().map(|key| (key, self.any_entry())).collect();
-        self.store.write_bytes(place, &entries);
+        self.store.write_with_bits(place, &entries);
         if let Place::Live { table, .. } = &mut self.store.places[place] {
             *table = entries;
         }

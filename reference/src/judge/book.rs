@@ -3,12 +3,13 @@
 
 use super::compaction::Deed;
 use super::latest::reply;
-use super::working::{bytes_of, Working};
+use super::probe::has_bits;
+use super::working::{bytes_of, Rows, Working};
 use super::Served;
 use crate::lent::Lent;
 
 impl Working {
-    /// Compares a reply with what the rules give, done look-ups and scans apart.
+    /// Compares a reply with what the rules give, done look-ups, scans and probes apart.
     pub fn compare_reply(&self, served: &Served, deed: Option<Deed>) -> Result<(), String> {
         let Some((result, body)) = self.expected(served, deed) else {
             return Ok(());
@@ -25,10 +26,10 @@ impl Working {
         let bare = |result| Some((result, Vec::new()));
         let step = |number: u8, level: usize| Some((0, vec![number, 0, level as u8, 0]));
         match (served.kind, deed) {
-            (0 | 8.., _) => bare(16),
+            (0 | 9.., _) => bare(16),
             (kind, _) if !Working::well_formed(kind, served.body) => bare(17),
             (4, _) if upside_down(served.body) => bare(19),
-            (3 | 4, _) => None,
+            (3 | 4 | 8, _) => None,
             (7, _) => Some((0, self.report())),
             (_, None | Some(Deed::Idle)) => bare(65),
             (_, Some(Deed::Written | Deed::Flushed)) => bare(0),
@@ -47,7 +48,7 @@ impl Working {
         counts.iter().flat_map(|count| (*count as u16).to_le_bytes()).collect()
     }
 
-    /// Compares head, lists, memory table, states and the bytes of live tables.
+    /// Compares head, lists, memory table, states, summaries and the bytes of live tables.
     pub fn compare_book(&self, after: &Lent) -> Result<(), String> {
         let places = self.tables.len();
         let mut head = [0; 10];
@@ -77,8 +78,12 @@ impl Working {
     fn compare_places(&self, after: &Lent) -> Result<(), String> {
         for (place, table) in self.tables.iter().enumerate() {
             let fits = match table {
-                None => after.cards[place][0] == 0,
-                Some(rows) => after.cards[place][0] != 0 && after.place(place) == bytes_of(rows),
+                None => after.cards[place][0] == 0 && has_bits(&after.cards[place], &Rows::new()),
+                Some(rows) => {
+                    after.cards[place][0] != 0
+                        && after.place(place) == bytes_of(rows)
+                        && has_bits(&after.cards[place], rows)
+                }
             };
             if !fits {
                 return Err(format!("place {place} does not hold what is expected"));

@@ -10,7 +10,8 @@ pub struct LatestWrites {
 }
 
 impl LatestWrites {
-    /// Takes in one served request; for look-ups and scans the reply is compared whole.
+    /// Takes in one served request; for look-ups and scans the reply is compared whole, for kind 8 all but the tables opened and
+    /// their bits, which the working knows.
     /// Says whether an earlier value was overwritten or taken away.
     pub fn judge(&mut self, served: &Served) -> Result<bool, String> {
         let done = served.result() == Some(0);
@@ -19,6 +20,7 @@ impl LatestWrites {
             2 if done => Ok(self.take(key(served.body, 0)?)),
             3 if served.body.len() == 8 => self.compare_look_up(served).map(|()| false),
             4 if served.body.len() == 16 => self.compare_scan(served).map(|()| false),
+            8 if served.body.len() == 8 => self.compare_probe(served).map(|()| false),
             _ => Ok(false),
         }
     }
@@ -40,6 +42,17 @@ impl LatestWrites {
             None => (64, &[]),
         };
         compare(served, &reply(3, result, value), &format!("look-up of {key}"))
+    }
+
+    /// Whether a value is found, and which; the bytes between are taken as they are.
+    fn compare_probe(&self, served: &Served) -> Result<(), String> {
+        let key = key(served.body, 0)?;
+        let value = self.values.get(&key);
+        let between = served.reply.get(8..14).ok_or("a reply of kind 8 that is too short")?;
+        let found = u16::from(value.is_some()).to_le_bytes();
+        let value = value.map_or(&[][..], |value| value);
+        let body = [&found[..], between, value].concat();
+        compare(served, &reply(8, 0, &body), &format!("probe of {key}"))
     }
 
     /// A scan with low above high is refused and not measured by the map.

@@ -8,6 +8,7 @@ mod image;
 mod latest;
 mod marks;
 pub mod met;
+mod probe;
 mod working;
 
 pub use compaction::Deed;
@@ -44,7 +45,7 @@ pub struct Followed<'a> {
     /// Whether a put or delete took the place of an earlier value.
     pub replaced: bool,
     pub deed: Option<Deed>,
-    /// What a tidy met; see `met`.
+    /// What a tidy or a probe met; see `met`.
     pub met: Vec<&'static str>,
 }
 
@@ -98,6 +99,7 @@ impl Judge {
         let mut followed = Vec::new();
         for served in pair(list, ran, answers)? {
             let replaced = self.latest.judge(&served)?;
+            self.working.compare_probe(&served)?;
             let deed = self.working.serve(served.kind, served.body);
             if self.whole_book {
                 self.working.compare_reply(&served, deed)?;

@@ -101,11 +101,11 @@ impl Working {
         hanging
     }
 
-    /// Whether the body's length fits the kind, which is one of the seven.
+    /// Whether the body's length fits the kind, which is one of the eight.
     pub(super) fn well_formed(kind: u16, body: &[u8]) -> bool {
         match kind {
             1 => (8..=8 + VALUE_BYTES).contains(&body.len()),
-            2 | 3 => body.len() == 8,
+            2 | 3 | 8 => body.len() == 8,
             4 => body.len() == 16,
             _ => body.is_empty(),
         }

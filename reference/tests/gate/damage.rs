@@ -7,7 +7,7 @@ use reference::generate::planted::planted;
 use reference::generate::profile::{Source, PROFILES};
 use reference::generate::random::Random;
 use reference::implementation::Reference;
-use reference::lent::{Lent, HEAD_CURSOR, HEAD_LENGTHS, LINK_WORDS, ROW_LINKS};
+use reference::lent::*;
 use reference::letters::said;
 use reference::limits::{ENTRY_BYTES, TABLE_HEAD};
 use reference::reached::Reached;
@@ -100,7 +100,7 @@ fn the_set_names_all_broken_rules() {
 pub fn disturb(lent: &mut Lent, random: &mut Random) {
     let small = random.below(20) as u64;
     let value = *random.pick(&[0, 1, 2, 3, small, u64::MAX, 1 << 40]);
-    match random.below(6) {
+    match random.below(7) {
         0 => lent.head[random.below(10)] = value,
         1 => lent.memory[random.below(40)] = value as u8,
         2 => {
@@ -111,6 +111,10 @@ pub fn disturb(lent: &mut Lent, random: &mut Random) {
             let byte = random.below(lent.area.len() / 1024) * 1024
                 + random.below(TABLE_HEAD + ENTRY_BYTES);
             lent.area[byte] = value as u8;
+        }
+        4 => {
+            let card = random.below(lent.cards.len());
+            lent.cards[card][ROW_SUMMARY + random.below(ROW_WORDS - ROW_SUMMARY)] = value;
         }
         _ => {
             let card = random.below(lent.cards.len());

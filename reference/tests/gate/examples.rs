@@ -86,8 +86,10 @@ fn p7_three_links_cover_all_keys() {
     assert_eq!(lent.cards[0][..6], [1, 1, 3, 0, 20, 1]);
     assert_eq!(lent.cards[1][..6], [1, 1, 3, 21, 40, 1]);
     assert_eq!(lent.cards[2][..6], [1, 1, 3, 41, Key::MAX, 1]);
-    assert_eq!((lent.cards[3].len(), lent.cards[3][0]), (34, 2));
-    assert!(lent.cards[3][1..].iter().all(|word| *word == 0));
+    assert_eq!((lent.cards[3].len(), lent.cards[3][0]), (38, 2));
+    assert!(lent.cards[3][1..34].iter().all(|word| *word == 0));
+    // The bits 5, 25 and 70.
+    assert_eq!(lent.cards[3][34..], [1 << 5 | 1 << 25, 1 << (70 - 64), 0, 0]);
 }
 
 #[test]

@@ -22,8 +22,7 @@ fn sound() -> Lent {
             links.push(Link { place: 3, low, high: low + 10, number });
         }
     }
-    store.write_bytes(3, &table(&[12, 15, 35]));
-    store.places[3] = Place::Frozen { table: table(&[12, 15, 35]) };
+    store.settle_frozen(3, table(&[12, 15, 35]));
     store.write_bytes(10, &table(&[7]));
     store.memory = table(&[8, 9]);
     let lent = store.encode();
@@ -42,7 +41,11 @@ fn break_rule(lent: &mut Lent, rule: char) {
         'C' => lent.area[2 * PLACE_BYTES + 2] = 31,
         'D' => lent.memory[6] = 1,
         'E' => lent.cards[1][NUMBER] = 3,
-        'F' => lent.cards[10][ROW_STATE] = STATE_FROZEN,
+        'F' => {
+            lent.cards[10][ROW_STATE] = STATE_FROZEN;
+            // The bit of its one key, 7, without which C would be broken.
+            lent.cards[10][ROW_SUMMARY] = 1 << 7;
+        }
         'G' => lent.head[HEAD_MARKS] = 2,
         _ => unreachable!("A to G"),
     }
@@ -88,10 +91,10 @@ fn of_all_that_are_damaged_the_first_is_given() {
 /// A damage to the store above, the letter that comes for it, and all broken rules.
 type Example = (&'static str, fn(&mut Lent), u8, &'static str);
 
-const EXAMPLES: [Example; 13] = [
+const EXAMPLES: [Example; 20] = [
     ("a link to a free place", |lent| lent.cards[1][ROW_LINKS] = 11, b'E', "EF"),
     ("a link to no place", |lent| lent.cards[1][ROW_LINKS] = 16, b'E', "E"),
-    ("a linked place made free", |lent| lent.cards[3][ROW_STATE] = 0, b'E', "EF"),
+    ("a linked place made free", |lent| lent.cards[3][ROW_STATE] = 0, b'E', "EFG"),
     ("a linked place without its links", |lent| unlink(lent), b'F', "F"),
     ("a state above 2", |lent| lent.cards[9][ROW_STATE] = u64::MAX, b'B', "B"),
     ("a state above 2, memory damaged", |lent| damage_state_and_memory(lent), b'B', "BD"),
@@ -100,13 +103,20 @@ const EXAMPLES: [Example; 13] = [
     ("a byte of the memory beyond its length", |lent| lent.memory[1023] = 1, b'D', "D"),
     ("a byte of a place beyond its table", |lent| lent.area[1023] = 1, b'C', "C"),
     ("a link on a free card, ranges upside down", |lent| damage_ranges(lent), b'B', "B"),
+    ("a bit more on a live card", |lent| lent.cards[1][ROW_SUMMARY] |= 1 << 11, b'C', "C"),
+    ("a bit less on a frozen card", |lent| lent.cards[3][ROW_SUMMARY] &= !(1 << 12), b'C', "C"),
+    ("the last bit of a live card", |lent| lent.cards[0][ROW_WORDS - 1] = 1 << 63, b'C', "C"),
+    ("a bit on a free card", |lent| lent.cards[10][ROW_SUMMARY] = 1 << 7, b'G', "G"),
+    ("a wrong bit, memory damaged", |lent| damage_bit_and(lent, 'D'), b'C', "CD"),
+    ("a wrong bit, a wrong number", |lent| damage_bit_and(lent, 'E'), b'C', "C"),
+    ("a wrong bit, a state above 2", |lent| damage_bit_and(lent, 'B'), b'B', "BC"),
     ("threshold 9, all else live and 1", |lent| fill(lent, 1), b'A', "ABCD"),
     ("threshold 9, all else of all bits", |lent| fill(lent, u64::MAX), b'A', "ABD"),
 ];
 
 fn unlink(lent: &mut Lent) {
-    lent.cards[1][ROW_COUNT..].fill(0);
-    lent.cards[2][ROW_COUNT..].fill(0);
+    lent.cards[1][ROW_COUNT..ROW_SUMMARY].fill(0);
+    lent.cards[2][ROW_COUNT..ROW_SUMMARY].fill(0);
 }
 
 fn damage_state_and_memory(lent: &mut Lent) {
@@ -117,6 +127,11 @@ fn damage_state_and_memory(lent: &mut Lent) {
 fn damage_flag_and_number(lent: &mut Lent) {
     lent.head[HEAD_MARKS] = 2;
     lent.cards[1][NUMBER] = 1;
+}
+
+fn damage_bit_and(lent: &mut Lent, rule: char) {
+    lent.cards[2][ROW_SUMMARY] ^= 1 << 30;
+    break_rule(lent, rule);
 }
 
 fn damage_ranges(lent: &mut Lent) {

@@ -1,5 +1,6 @@
 //! All tests of the second implementation and of the judge, as one program.
 
+mod bits;
 mod build;
 mod cleared;
 mod common;

@@ -11,6 +11,7 @@ use reference::generate::random::Random;
 use reference::generate::requests::tidy;
 use reference::generate::sketch::Case;
 use reference::implementation::Reference;
+use reference::judge::met;
 use reference::lent::Lent;
 use reference::reached::Reached;
 use reference::run::{make, run};
@@ -103,6 +104,9 @@ fn the_descent_drops_marks_on_levels_1_and_2() {
     let names = ["dropped on 1", "kept on 1", "dropped on 2", "kept on 2"];
     let counts = names.map(|name| trial.reached.times(&format!("delete marks {name}")));
     assert_eq!(counts, [1, 15, 15, 0]);
+    // Its probes open tables in most ways.
+    let names = [met::PROBED_LINK_1, met::PROBED_ON_0, met::PROBED_MARK, met::ALL_IN_VAIN];
+    assert!(names.iter().all(|name| trial.reached.times(name) > 0), "{}", trial.reached);
 }
 
 /// The keys of the entries that a merge of this table meets.

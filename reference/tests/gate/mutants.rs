@@ -30,6 +30,9 @@ const UNSEEN_BY_JUDGE: &[(Slip, &str)] = &[
     (Slip::MemoryJudgedBeforePlaces, "demand 3 does not measure runs that are refused"),
     (Slip::FrozenJudgedWithLinks, "demand 3 does not measure runs that are refused"),
     (Slip::LastBrokenGiven, "demand 3 does not measure runs that are refused"),
+    (Slip::MoreBitsAreSound, "demand 3 does not measure runs that are refused"),
+    (Slip::FreeBitsNotAsked, "demand 3 does not measure runs that are refused"),
+    (Slip::WrongBitsJudgedLast, "demand 3 does not measure runs that are refused"),
     (Slip::OpenWritesBeforeCheck, "demand 3 does not measure openings that are refused"),
     (Slip::SavedListCountAnyPlaces, "demand 3 does not measure openings that are refused"),
     (Slip::SaveJudgesRoomFirst, "demand 3 does not measure savings that are refused"),
@@ -51,14 +54,27 @@ const UNSEEN_BY_BOOK: &[(Slip, &str)] = &[
     (Slip::MemoryJudgedBeforePlaces, "the judge follows no run that is refused"),
     (Slip::FrozenJudgedWithLinks, "the judge follows no run that is refused"),
     (Slip::LastBrokenGiven, "the judge follows no run that is refused"),
+    (Slip::MoreBitsAreSound, "the judge follows no run that is refused"),
+    (Slip::FreeBitsNotAsked, "the judge follows no run that is refused"),
+    (Slip::WrongBitsJudgedLast, "the judge follows no run that is refused"),
     (Slip::OpenWritesBeforeCheck, "the judge follows no opening that is refused"),
     (Slip::SavedListCountAnyPlaces, "the judge follows no opening that is refused"),
     (Slip::SaveJudgesRoomFirst, "the judge follows no saving that is refused"),
 ];
 
-/// Slips in the letter, which show on damaged stores alone.
-const IN_THE_LETTER: [Slip; 3] =
-    [Slip::MemoryJudgedBeforePlaces, Slip::FrozenJudgedWithLinks, Slip::LastBrokenGiven];
+/// Slips in the letter, and in which bits are sound, which show on damaged stores alone.
+const IN_THE_LETTER: [Slip; 6] = [
+    Slip::MemoryJudgedBeforePlaces,
+    Slip::FrozenJudgedWithLinks,
+    Slip::LastBrokenGiven,
+    Slip::MoreBitsAreSound,
+    Slip::FreeBitsNotAsked,
+    Slip::WrongBitsJudgedLast,
+];
+
+/// Slips in openings that are accepted, which histories with openings show, too.
+const IN_OPENINGS: [Slip; 3] =
+    [Slip::CursorToAddedPlaces, Slip::OpenLeavesBitsOut, Slip::OpenGivesFreeCardsBits];
 
 /// Slips in what is refused of savings and openings.
 const IN_SAVING: [Slip; 3] =
@@ -237,7 +253,7 @@ fn slips_in_the_letter_are_caught_by_run_check_and_plan() {
 #[test]
 fn slips_in_savings_and_openings_are_caught_by_comparison_and_plan() {
     announce("first saving or opening that shows it in   comparison        plan");
-    for slip in IN_SAVING.into_iter().chain([Slip::CursorToAddedPlaces]) {
+    for slip in IN_SAVING.into_iter().chain(IN_OPENINGS) {
         let subject = Reference { slip: Some(slip) };
         let by_plan = |number: &u64| {
             let (saving, opening) = saving_and_opening(*number);

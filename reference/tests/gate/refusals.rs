@@ -124,6 +124,10 @@ fn numbers_16_and_17_in_this_order() {
     assert_eq!(refusal(&lent, request(1, &[0; 8 + VALUE_BYTES + 1])), hex("06 00 01 00 11 00"));
     assert_eq!(refusal(&lent, request(4, &[255; 15])), hex("06 00 04 00 11 00"));
     assert_eq!(refusal(&lent, request(6, &[0])), hex("06 00 06 00 11 00"));
+    for length in [0, 7, 9, 16] {
+        assert_eq!(refusal(&lent, request(8, &vec![0; length])), hex("06 00 08 00 11 00"));
+    }
+    assert_eq!(refusal(&lent, request(9, &[0; 8])), hex("06 00 09 00 10 00"));
 }
 
 #[test]

@@ -105,7 +105,7 @@ fn areas_of_other_sizes_and_other_content() {
         if let Some(store) = store {
             assert_eq!(store.head, told::store().head, "{name}");
             assert_eq!(store.memory, told::store().memory, "{name}");
-            assert_eq!(store.cards[..16], told::store().cards, "{name}");
+            assert_eq!(store.cards[..16], told::cards_over(name), "{name}");
             assert!(store.cards[16..].iter().all(|row| *row == ROW_FREE), "{name}");
         }
     }

@@ -19,8 +19,7 @@ fn loaded(threshold: usize, level: usize, own: u64, numbers: &[u64]) -> Store {
     let mut hung = Vec::new();
     for (place, number) in (1..).zip(numbers) {
         let table: Entries = (0..*number).map(|key| (key, Entry::DeleteMark)).collect();
-        store.write_bytes(place, &table);
-        store.places[place] = Place::Frozen { table };
+        store.settle_frozen(place, table);
         hung.push(Link { place, low: 0, high: 50, number: *number as usize });
     }
     if let Place::Live { links, .. } = &mut store.places[0] {

@@ -25,6 +25,7 @@ On the store, also as lines of a script or at the prompt:
   tidy                 one step of compaction
   tidy all             steps until there is nothing to do
   report               counts of places, tables, links, memory entries
+  probe KEY            the value under a key, and which tables are opened for it
   check                whether the store is sound, or its first broken rule
   show                 what stands where, as a picture
 

@@ -1,6 +1,6 @@
 //! More on each command.
 
-pub const TOPICS: [(&str, &str); 20] = [
+pub const TOPICS: [(&str, &str); 21] = [
     (
         "put",
         "\
@@ -91,6 +91,23 @@ entries of the memory table.
 ",
     ),
     (
+        "probe",
+        "\
+probe KEY
+
+Prints what a look-up of this key gives, how many tables it opens for it, and
+how many bits are set in the summaries of these; then the tables, in the order
+of reading. Each table has 256 bits, three set for each of its keys; a look-up
+opens a table only if the three bits of its key are set. Of the tables that it
+asks (on level 0 all, on levels 1 to 3 the one whose span holds the key and
+those of its links whose range does) most are so passed. One that is opened and
+does not hold the key is opened in vain. Memory is no table; where it decides,
+none is asked. The exit status is 0 whether there is a value or not.
+
+  probe 12 3.450
+",
+    ),
+    (
         "check",
         "\
 check
@@ -116,8 +133,9 @@ show [--ascii] [--svg FILE]
 Draws the levels, the tables with their spans of keys, links and frozen places;
 with --svg as a picture into FILE (- is standard output). Bars go by the order
 of the keys that are there, each key as wide as the next. Numbers are entries;
-5/16 says that a table's links weigh 5 and that it has 16 itself. Delete marks
-are counted, those in slices too. At the prompt and in scripts: `show` alone.
+5/16 says that a table's links weigh 5 and that it has 16 itself; 15% says how
+many of the 256 bits of its summary are set (`help probe`). Delete marks are
+counted, those in slices too. At the prompt and in scripts: `show` alone.
 
   surveyctl --store van.store show --svg van.svg
 ",

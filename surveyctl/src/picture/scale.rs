@@ -1,7 +1,8 @@
 //! Where keys stand in a picture: by their order among all keys that are there, each as wide as the next.
 
+use crate::words::{counted, percent};
 use std::collections::BTreeSet;
-use zilgwern::{Entry, Key, Table, View};
+use zilgwern::{Entry, Key, Summary, Table, View};
 
 /// All keys of a store, rising.
 pub struct Scale {
@@ -79,14 +80,6 @@ pub fn fill(view: &View, level: usize) -> String {
     CAPACITIES[level].map_or(tables.clone(), |most| format!("{tables} (capacity {most})"))
 }
 
-/// One or several of a thing.
-pub fn counted(count: usize, one: &str, several: &str) -> String {
-    match count {
-        1 => format!("1 {one}"),
-        _ => format!("{count} {several}"),
-    }
-}
-
 /// The first line of both pictures.
 pub fn title(view: &View) -> String {
     let live: usize = view.levels.iter().map(Vec::len).sum();
@@ -107,4 +100,14 @@ pub fn delete_marks(view: &View) -> Option<String> {
         .map(|(count, place)| format!("{count} {place}"))
         .collect();
     (!words.is_empty()).then(|| format!("delete marks: {}", words.join(", ")))
+}
+
+/// How full the summaries of live and frozen tables are, if there are any.
+pub fn summary_bits(view: &View) -> Option<String> {
+    let tables = view.levels.iter().flatten().chain(&view.frozen);
+    let set: Vec<usize> = tables.map(|table| table.summary.bits_set()).collect();
+    let most = set.iter().max()?;
+    let average = percent(set.iter().sum(), set.len() * Summary::BITS);
+    let (bits, most) = (Summary::BITS, percent(*most, Summary::BITS));
+    Some(format!("summary bits set: {average} % of {bits} on average, at most {most} %"))
 }

@@ -2,9 +2,9 @@
 //! and the tables below, and a map of all places.
 
 use super::paint::{Paint, FREE, FROZEN, LEFT, LEVELS, MEMORY, MERGED, RIGHT, WIDTH};
-use super::scale::{counted, extent, fill, frozen_on, states, title, weighed, Scale, State};
-use crate::words::{key_words, range_words};
-use zilgwern::{Entry, Key, Link, Table, View};
+use super::scale::{extent, fill, frozen_on, states, summary_bits, title, weighed, Scale, State};
+use crate::words::{counted, key_words, range_words, share_words};
+use zilgwern::{Entry, Key, Link, Summary, Table, View};
 
 /// Heights of a row of tables and of a link's slice, each with the room below it, and the room between things.
 const ROW: f64 = 25.0;
@@ -90,7 +90,8 @@ impl Drawing<'_> {
     /// Title, what the width means, and what the colours mean.
     fn head(&mut self) {
         let View { threshold, cursor, .. } = self.view;
-        let words = format!("{}; threshold {threshold}; cursor {cursor}", title(self.view));
+        let bits = summary_bits(self.view).map_or(String::new(), |bits| format!("; {bits}"));
+        let words = format!("{}; threshold {threshold}; cursor {cursor}{bits}", title(self.view));
         self.paint.words(16.0, self.y, "title", &words);
         let words = match self.scale.ends() {
             Some((low, high)) => {
@@ -143,7 +144,8 @@ impl Drawing<'_> {
         let count = counted(table.entries.len(), "entry", "entries");
         let range = extent(&table.entries)
             .map_or(String::new(), |(low, high)| range_words(low, high, self.whole));
-        format!("place {}, {kind}: {count}, {range}", table.place)
+        let bits = share_words(table.summary.bits_set(), Summary::BITS);
+        format!("place {}, {kind}: {count}, {range}; {bits}", table.place)
     }
 
     /// Level 0: a row for each table, the newest on top since it is read first.

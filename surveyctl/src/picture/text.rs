@@ -1,14 +1,15 @@
 //! The picture in a terminal of 80 columns: a line for each table and link, with a bar for its keys.
 
 use super::scale::{
-    counted, delete_marks, extent, fill, frozen_on, states, title, weighed, Scale, State,
+    delete_marks, extent, fill, frozen_on, states, summary_bits, title, weighed, Scale, State,
 };
-use crate::words::{key_words, range_words};
-use zilgwern::{Key, Table, View};
+use crate::words::{counted, key_words, percent, range_words};
+use zilgwern::{Key, Summary, Table, View};
 
-/// Columns of a name with its count, and of a bar.
+/// Columns of a name with its count, of the share of bits, and of a bar.
 const NAME: usize = 19;
-const BAR: usize = 30;
+const SHARE: usize = 5;
+const BAR: usize = 26;
 
 /// Places on one line of the map.
 const MAP: usize = 64;
@@ -41,6 +42,24 @@ struct Drawing<'a> {
     lines: Vec<String>,
 }
 
+/// What stands before a bar: a name, a count, and of a table the share of its summary's bits that are set.
+struct Named {
+    name: String,
+    count: String,
+    share: String,
+}
+
+impl Named {
+    fn of(table: &Table) -> Named {
+        let share = format!("{}%", percent(table.summary.bits_set(), Summary::BITS));
+        Named { name: format!("  place {}", table.place), count: weighed(table), share }
+    }
+
+    fn without_share(name: String, count: usize) -> Named {
+        Named { name, count: count.to_string(), share: String::new() }
+    }
+}
+
 pub fn draw(view: &View, whole: bool, signs: &Signs) -> String {
     let mut drawing = Drawing { view, scale: Scale::of(view), whole, signs, lines: Vec::new() };
     drawing.lines.push(title(view));
@@ -55,7 +74,7 @@ pub fn draw(view: &View, whole: bool, signs: &Signs) -> String {
 }
 
 impl Drawing<'_> {
-    /// Threshold, cursor and marks; and where delete marks are.
+    /// Threshold, cursor and marks; where delete marks are; and how full the summaries.
     fn book(&mut self) {
         let mut line = format!("threshold {}, cursor {}", self.view.threshold, self.view.cursor);
         for (at, mark) in self.view.marks.iter().enumerate() {
@@ -65,14 +84,17 @@ impl Drawing<'_> {
         }
         self.lines.push(line);
         self.lines.extend(delete_marks(self.view));
+        self.lines.extend(summary_bits(self.view));
     }
 
-    /// One line: a name, a count, a bar, and the range in words.
-    fn row(&mut self, name: &str, count: &str, bar: &[char], range: Option<(Key, Key)>) {
+    /// One line: a name, a count, the share of a table's bits, a bar, and the range in words.
+    fn row(&mut self, named: &Named, bar: &[char], range: Option<(Key, Key)>) {
+        let Named { name, count, share } = named;
         let bar: String = bar.iter().collect();
         let words = range.map_or(String::new(), |(low, high)| range_words(low, high, self.whole));
         let rest = NAME.saturating_sub(name.chars().count());
-        self.lines.push(format!("{name}{count:>rest$}  {bar}  {words}").trim_end().into());
+        let line = format!("{name}{count:>rest$}{share:>SHARE$}  {bar}  {words}");
+        self.lines.push(line.trim_end().into());
     }
 
     /// A bar without keys.
@@ -89,18 +111,18 @@ impl Drawing<'_> {
     }
 
     /// A row whose bar is one range.
-    fn simple(&mut self, name: &str, count: &str, sign: char, range: Option<(Key, Key)>) {
+    fn simple(&mut self, named: &Named, sign: char, range: Option<(Key, Key)>) {
         let mut bar = self.bar();
         if let Some((low, high)) = range {
             self.fill(&mut bar, low, high, sign);
         }
-        self.row(name, count, &bar, range);
+        self.row(named, &bar, range);
     }
 
     fn memory(&mut self) {
         let range = extent(&self.view.memory);
-        let count = self.view.memory.len().to_string();
-        self.simple("memory", &count, self.signs.own, range);
+        let named = Named::without_share("memory".into(), self.view.memory.len());
+        self.simple(&named, self.signs.own, range);
     }
 
     fn level(&mut self, level: usize) {
@@ -109,8 +131,7 @@ impl Drawing<'_> {
         let order = if level == 0 && tables.len() > 1 { ", oldest first" } else { "" };
         self.lines.push(format!("level {level}: {}{order}{}", fill(view, level), self.due(level)));
         for table in tables {
-            let name = format!("  place {}", table.place);
-            self.simple(&name, &weighed(table), self.signs.own, extent(&table.entries));
+            self.simple(&Named::of(table), self.signs.own, extent(&table.entries));
             self.links(table);
         }
     }
@@ -136,7 +157,7 @@ impl Drawing<'_> {
         for link in table.links.iter().rev() {
             let name = format!("  {} place {}", self.signs.arrow, link.place);
             let range = Some((link.low, link.high));
-            self.simple(&name, &link.number.to_string(), self.signs.link, range);
+            self.simple(&Named::without_share(name, link.number), self.signs.link, range);
         }
     }
 
@@ -161,8 +182,7 @@ impl Drawing<'_> {
                     self.fill(&mut bar, low, high, self.signs.waits);
                 }
             }
-            let (name, count) = (format!("  place {}", table.place), table.entries.len());
-            self.row(&name, &count.to_string(), &bar, range);
+            self.row(&Named::of(table), &bar, range);
         }
     }
 
@@ -174,6 +194,8 @@ impl Drawing<'_> {
         let links = counted(self.view.threshold as usize, "link", "links");
         let due = format!("a merge is due at {links}, or at m/m or more");
         self.lines.push(format!("n/m: m own entries, n in links; {due}"));
+        let bits = Summary::BITS;
+        self.lines.push(format!("n%: of the {bits} bits of a table's summary, so many are set"));
         self.lines.push("places: . free, 0 to 3 live on that level, f frozen".into());
         let sign = |state: &State| match state {
             State::Free => '.',

@@ -1,4 +1,4 @@
-//! A folder for one test, and calls of the program in it.
+//! A folder for one test, calls of the program in it, and files of the form before this one.
 #![allow(dead_code)]
 
 pub mod damaged;
@@ -7,6 +7,7 @@ pub mod stopped;
 use std::io::{BufRead, BufReader, Write};
 use std::path::{Path, PathBuf};
 use std::process::{Child, ChildStdout, Command, Stdio};
+use zilgwern::Memory;
 
 pub struct Folder(PathBuf);
 
@@ -137,4 +138,13 @@ impl Running {
         drop(self.child.stdin.take());
         ended(self.child)
     }
+}
+
+/// The second form: the pieces one behind the other, rows without their summary, and a word that says the form.
+pub fn second_form(memory: &Memory) -> Vec<u8> {
+    let words = |words: &[u64]| words.iter().flat_map(|word| word.to_le_bytes()).collect();
+    let rows: Vec<Vec<u8>> = memory.cards.iter().map(|row| words(&row[..34])).collect();
+    let items: Vec<u8> = memory.lists.iter().flat_map(|item| item.to_le_bytes()).collect();
+    let head: Vec<u8> = words(&memory.head);
+    [&memory.area[..], &rows.concat(), &items, &head, &memory.memory, &2u64.to_le_bytes()].concat()
 }

@@ -3,8 +3,8 @@ use mathlib.Core.Path.{_≡_, sym, _∙_}
 use mathlib.Core.Bool.{true}
 use borrow.Author.Tests.{not-true, not-false}
 use borrow.Author.Needs.{needs}
-use Rattle.ldc.specs.Rules.{ruleA, ruleC}
-use Rattle.ldc.specs.Lent.{Lent, storeOf, keptB}
+use Rattle.ldc.specs.Rules.{ruleA}
+use Rattle.ldc.specs.Lent.{Lent, storeOf, keptB, keptC}
 use Rattle.check_places.proofs.RuleLaws.{sized, long-lists, rule-A, rule-B, rule-C, found, kept-C}
 use Rattle.check_store.proofs.LetterLaws.{letter-A, letter-B, letter-C, letter-D, rest-letters}
 use Rattle.check_store.proofs.first_broken.Statement.{statement}
@@ -36,7 +36,7 @@ a-kept c = rule-A (lent (start-A c)) (start-A c .pre .0) ∙ sym (c .before .kep
 b-kept : (c : tie.Else2) → keptB (lent (start-B c)) ≡ true
 b-kept c = rule-B (lent (start-B c)) (start-B c .pre .0) ∙ sym (c .before .before .before .kept2 .ensures) ∙ not-false _ (c .if2 .left)
 
-c-kept : (c : tie.Else3) → ruleC (storeOf (lent (start-C c))) ≡ true
+c-kept : (c : tie.Else3) → keptC (lent (start-C c)) ≡ true
 c-kept c = rule-C (lent (start-C c)) (start-C c .pre .0) ∙ sym (c .before .before .before .kept3 .ensures .0) ∙ not-false _ (c .if3 .left)
 
 kept-requires : tie.Need-kept-requires

@@ -104,18 +104,16 @@ filled : (c : tie.After-write-all) (memory : List ℕ) (b : Backed (found (entry
     Lends (lent (c .write-all .last .0) (c .write-all .last .1 .0) (c .write-all .last .1 .1 .0) (headWords (c .write-all .result)) []) p
 filled c memory b = c .write-all .ensures _ _ (at (entry c) memory b .placing)
 
-set-state-requires : tie.Need-set-state-requires
-set-state-requires c κs =
+free-requires : tie.Need-free-requires
+free-requires c κs =
     let w = c .before .before .before .before .before .before in
     let b = entry w .before in
     let a = b .args in
     let m : List ℕ = b .pre .work .memory in
     let r = at (entry w) m (b .pre .work .backed) in
-    let f = filled w m (b .pre .work .backed) in (
-      merge-below (storeOf (found (entry w) m)) (r .sound) (r .fits) (a .n) (a .p) (r .merging) (r .enough)
-          (w .write-all .last .0) (w .write-all .last .1 .0) (w .write-all .last .1 .1 .0) (headWords (w .write-all .result)) f,
-      omega arith,
-    )
+    let f = filled w m (b .pre .work .backed) in
+    merge-below (storeOf (found (entry w) m)) (r .sound) (r .fits) (a .n) (a .p) (r .merging) (r .enough)
+    (w .write-all .last .0) (w .write-all .last .1 .0) (w .write-all .last .1 .1 .0) (headWords (w .write-all .result)) f
 
 release-requires : tie.Need-release-requires
 release-requires c κs =
@@ -133,7 +131,7 @@ release-requires c κs =
         arith,
         row-below s (r .sound) (r .fits) (a .n) (a .p) (r .merging) (r .enough) (a .cards .now) (r .shows .cards) i h,
         merge-many s (r .sound) (r .fits) (a .n) (a .p) (r .merging) (r .enough)
-            (w .write-all .last .0) (w .write-all .last .1 .0) (w .write-all .last .1 .1 .0) (headWords (w .write-all .result)) f (t .set-state .last .0) (t .set-state .ensures),
+            (w .write-all .last .0) (w .write-all .last .1 .0) (w .write-all .last .1 .1 .0) (headWords (w .write-all .result)) f (t .free .last .0) (t .free .ensures),
       );
     }
 
@@ -158,7 +156,7 @@ returns c =
     let f = filled w memory b in
     merge-done s (r .sound) (r .fits) (a .n) (a .p) (r .merging) (r .enough)
     (w .write-all .last .0) (w .write-all .last .1 .0) (w .write-all .last .1 .1 .0) (headWords (w .write-all .result)) f
-    (t .set-state .last .0) (t .set-state .ensures)
+    (t .free .last .0) (t .free .ensures)
     (a .cards .now) (e .release .last .0) memory (r .shows .cards)
     (held-at w .find-held .result) (omega (arith, held-at w .find-held .ok)) (held-at w .find-held .ensures)
     (e .release .ensures) (r .memory)
@@ -173,7 +171,7 @@ finish-merge-spec =
     items-requires
     find-held-requires
     write-all-requires
-    set-state-requires
+    free-requires
     release-requires
     same-length
     same-length-2

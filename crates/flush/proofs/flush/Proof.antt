@@ -16,6 +16,7 @@ use Rattle.book.specs.Pieces.{lent}
 use Rattle.read.specs.Shown.{Kept}
 use Rattle.book_edit.proofs.Keeping.{shape-of, area-kept, cursor-kept}
 use Rattle.flush.proofs.Flushing.{flush-empty, flush-full, flush-place, flush-listing, flush-done}
+use Rattle.ldc.proofs.Lent.Rules.{unbroken}
 use Rattle.flush.proofs.flush.Statement.{statement}
 use Rattle.flush.proofs.flush.Tie as tie
 
@@ -72,7 +73,7 @@ write-table-requires c κs =
     let k = e .before .before .before .before .before .before in (
       area-kept (found k) (shape k) (kept k),
       (
-        k .before .before .before .pre .memory,
+        (k .before .before .before .pre .memory, unbroken (found k) (kept k .unbroken) .memory),
         (cursor-kept (found k) (shape k) (kept k), leb-true 1 (freeRows (found k .cards)) (room e)),
       ),
     )

@@ -1,6 +1,6 @@
 -- Laws of the small functions on lists: tests of all, of any and of a run of numbers as facts about members and indices, how often a
 -- number occurs, and lists laid end to end. Each goes by induction on the list or on the number of parts.
-use Prim.Native.Nat.{ℕ, zero, suc, _+_, _*_, _≤_, _<_}
+use Prim.Native.Nat.{ℕ, zero, suc, _+_, _*_, _-_, _≤_, _<_}
 use mathlib.Core.Path.{_≡_, refl, sym, _∙_, ap}
 use mathlib.Core.Bool.{Bool, true, false, not, _||_, true≢false}
 use mathlib.Core.List.{List, [], _∷_, _++_, map, List·Memᴰ, List·Memᴰ·head, List·Memᴰ·tail, List·Memᴰ·append-cases}
@@ -10,7 +10,7 @@ use native.Mathlib.Nat.{suc-mul, zero-mul, add-zero, zero-add}
 use borrow.Author.Tests.{eq-eqb, eqb-true, eqb-false}
 use lib.Dec.{eqb}
 use lib.ListN.{drop-of-length-le, length, getD, take, drop, length-append, length-drop, take-append-drop}
-use lib.Seq.{drop-cons, take-at, drop-at, drop-drop, length-take-le}
+use lib.Seq.{drop-cons, take-at, drop-at, drop-drop, take-nil, length-take-le}
 use Rattle.table.proofs.Tests.{and-parts, cases}
 use Rattle.ldc.proofs.Basics.Cases.{neither-left, neither-right}
 use Rattle.ldc.specs.Lists.{all, any, keep, first, howMany, flat, isEmpty, allFrom}
@@ -202,6 +202,12 @@ module _ {ℓ} {A : Type ℓ} where
   length-within [] i = omega arith
   length-within (xs ∷ xss) zero = rw length-append (omega arith)
   length-within (xs ∷ xss) (suc i) = let r = length-within xss i in rw length-append (omega arith)
+
+  pub drop-take : (a n : ℕ) (s : List A) → drop a (take n s) ≡ take (n - a) (drop a s)
+  drop-take zero n s = let e : n - 0 ≡ n = omega arith in rw e
+  drop-take (suc a) zero s = let e : 0 - suc a ≡ 0 = omega arith in rw e
+  drop-take (suc a) (suc n) [] = sym (take-nil (suc n - suc a))
+  drop-take (suc a) (suc n) (x ∷ s) = let e : suc n - suc a ≡ n - a = omega arith in rw e (drop-take a n s)
 
   pub length-parts : (k n : ℕ) (s : List A) → length (parts k n s) ≡ n
   length-parts k zero s = refl

@@ -1,5 +1,5 @@
--- The store mirrors the latest-write map: every key has the map's value. So the store's contents, in one rising list, are the map, and look-ups and
--- scans answer as it does.
+-- The store mirrors the latest-write map: every key has the map's value. So the store's contents, in one rising list, are the map, and look-ups,
+-- probes and scans answer as it does.
 use Prim.Native.Nat.{ℕ, _^_}
 use mathlib.Core.Path.{_≡_, refl, sym, _∙_, ap}
 use mathlib.Core.List.{List, [], _∷_}
@@ -9,6 +9,7 @@ use native.Mathlib.Omega.{arith}
 use borrow.Author.Tests.{eqb-true, eq-eqb, le-leb, lt-leb, ltb-true, ltb-false}
 use lib.Dec.{leb, ltb, eqb}
 use lib.ListN.{length}
+use Rattle.coding.specs.Number.{bytesOf}
 use Rattle.table.specs.Entry.{Entry}
 use Rattle.table.specs.Search.{find}
 use Rattle.table.specs.Valid.{Keys}
@@ -18,9 +19,10 @@ use Rattle.ldc.specs.Request.{Request, known, bodyGood, keyIn, highIn, v
 use Rattle.ldc.specs.Memtable.{put, servePut}
 use Rattle.ldc.specs.Place.{serveFlush}
 use Rattle.ldc.specs.Read.{readOrder, gather, holdsValue, valueOf, contents, lookUp, lookUpServed, serveLookUp, scanBody, serveScan, serveReport}
+use Rattle.ldc.specs.Probe.{opened, bitsIn, probeBody, serveProbe}
 use Rattle.ldc.specs.Steps.{serveTidy}
 use Rattle.ldc.specs.Serve.{serve}
-use Rattle.ldc.specs.History.{mapLookUp, mapReply, Agrees}
+use Rattle.ldc.specs.History.{withoutCounts, compared, mapLookUp, mapProbe, mapReply, Agrees}
 use Rattle.ldc.proofs.Basics.Cases.{cases, clash, both-left, both-right}
 use Rattle.ldc.proofs.Entries.Finds.{find-gather}
 use Rattle.ldc.proofs.Entries.Keys.{passing, find-keep, keys-gather, keys-keep, keys-ext}
@@ -91,21 +93,23 @@ module _ (s : Store) (S : Sound s) (m : List Entry) (M : Mirrors s m) where
 
   module _ (r : Request) where
     -- the map says nothing of other requests
-    silent : (b : List ℕ) → (eqb (r .kind) 3 && eqb (length (r .body)) 8) ≡ false → (eqb (r .kind) 4 && eqb (length (r .body)) 16) ≡ false → Agrees (mapReply m r) b
+    silent : (b : List ℕ) → (eqb (r .kind) 3 && eqb (length (r .body)) 8) ≡ false → (eqb (r .kind) 8 && eqb (length (r .body)) 8) ≡ false
+        → (eqb (r .kind) 4 && eqb (length (r .body)) 16) ≡ false → Agrees (mapReply m r) b
     unfolding mapReply
-    silent b no3 no4 =
+    silent b no3 no8 no4 =
         let z : (eqb (r .kind) 4 && (eqb (length (r .body)) 16 && leb (keyIn (r .body)) (highIn (r .body)))) ≡ false =
         three-false (eqb (r .kind) 4) (eqb (length (r .body)) 16) (leb (keyIn (r .body)) (highIn (r .body))) no4 in
-        rw (no3, z) tt
+        rw (no3, no8, z) tt
 
-    other-kind : (b : List ℕ) (n : ℕ) → r .kind ≡ n → eqb n 3 ≡ false → eqb n 4 ≡ false → Agrees (mapReply m r) b
-    other-kind b n e no3 no4 = silent b (rw (e, no3)) (rw (e, no4))
+    other-kind : (b : List ℕ) (n : ℕ) → r .kind ≡ n → eqb n 3 ≡ false → eqb n 8 ≡ false → eqb n 4 ≡ false → Agrees (mapReply m r) b
+    other-kind b n e no3 no8 no4 = silent b (rw (e, no3)) (rw (e, no8)) (rw (e, no4))
 
     silent-unknown : (b : List ℕ) → known (r .kind) ≡ false → Agrees (mapReply m r) b
     unfolding known
     silent-unknown b k =
         silent b
         (cases (eqb (r .kind) 3) (λ q. let e : r .kind ≡ 3 = eqb-true (r .kind) 3 q in clash (rw e) k) (λ q. rw q))
+        (cases (eqb (r .kind) 8) (λ q. let e : r .kind ≡ 8 = eqb-true (r .kind) 8 q in clash (rw e) k) (λ q. rw q))
         (cases (eqb (r .kind) 4) (λ q. let e : r .kind ≡ 4 = eqb-true (r .kind) 4 q in clash (rw e) k) (λ q. rw q))
 
     silent-misfit : (b : List ℕ) → bodyGood (r .kind) (length (r .body)) ≡ false → Agrees (mapReply m r) b
@@ -113,16 +117,32 @@ module _ (s : Store) (S : Sound s) (m : List Entry) (M : Mirrors s m) where
     silent-misfit b k =
         silent b
         (cases (eqb (r .kind) 3) (λ q. let e : r .kind ≡ 3 = eqb-true (r .kind) 3 q in rw e (rw e at k)) (λ q. rw q))
+        (cases (eqb (r .kind) 8) (λ q. let e : r .kind ≡ 8 = eqb-true (r .kind) 8 q in rw e (rw e at k)) (λ q. rw q))
         (cases (eqb (r .kind) 4) (λ q. let e : r .kind ≡ 4 = eqb-true (r .kind) 4 q in rw e (rw e at k)) (λ q. rw q))
 
-    look-agrees : r .kind ≡ 3 → length (r .body) ≡ 8 → Agrees (mapReply m r) (replyOf r (serveLookUp s (keyIn (r .body))))
-    unfolding mapReply serveLookUp replyOf lookUp
+    look-agrees : r .kind ≡ 3 → length (r .body) ≡ 8 → Agrees (mapReply m r) (compared r (replyOf r (serveLookUp s (keyIn (r .body)))))
+    unfolding mapReply serveLookUp replyOf lookUp compared
     look-agrees k n =
-        rw (eq-eqb (r .kind) 3 k, eq-eqb (length (r .body)) 8 n)
+        let no8 : eqb (r .kind) 8 ≡ false = rw k in
+        rw (no8, eq-eqb (r .kind) 3 k, eq-eqb (length (r .body)) 8 n)
         (look-reply (r .kind) k (valueOf (view s (keyIn (r .body)))) ∙ ap mapLookUp (M .values (keyIn (r .body))))
 
-    scan-agrees : r .kind ≡ 4 → length (r .body) ≡ 16 → Agrees (mapReply m r) (replyOf r (serveScan s (keyIn (r .body)) (highIn (r .body))))
-    unfolding mapReply serveScan replyOf
+    -- the counts of a probe stand between found and the value
+    counts-out : (kind : ℕ) (v : Option (List ℕ)) (tables bits : ℕ)
+        → withoutCounts (replyBytes kind 0 (probeBody v tables bits)) ≡ withoutCounts (replyBytes kind 0 (probeBody v 0 0))
+    unfolding withoutCounts replyBytes probeBody bytesOf
+    counts-out kind v tables bits = refl
+
+    probe-agrees : r .kind ≡ 8 → length (r .body) ≡ 8 → Agrees (mapReply m r) (compared r (replyOf r (serveProbe s (keyIn (r .body)))))
+    unfolding mapReply serveProbe replyOf lookUp compared
+    probe-agrees k n =
+        let no3 : eqb (r .kind) 3 ≡ false = rw k in
+        rw (no3, eq-eqb (r .kind) 8 k, eq-eqb (length (r .body)) 8 n, k)
+        (counts-out 8 (valueOf (view s (keyIn (r .body)))) (length (opened s (keyIn (r .body)))) (bitsIn s (opened s (keyIn (r .body))))
+        ∙ ap mapProbe (M .values (keyIn (r .body))))
+
+    scan-agrees : r .kind ≡ 4 → length (r .body) ≡ 16 → Agrees (mapReply m r) (compared r (replyOf r (serveScan s (keyIn (r .body)) (highIn (r .body)))))
+    unfolding mapReply serveScan replyOf compared
     scan-agrees k n =
         cases (ltb (highIn (r .body)) (keyIn (r .body)))
         (λ q. let z : leb (keyIn (r .body)) (highIn (r .body)) ≡ false = lt-leb (keyIn (r .body)) (highIn (r .body)) (ltb-true (highIn (r .body)) (keyIn (r .body)) q) in
@@ -130,15 +150,16 @@ module _ (s : Store) (S : Sound s) (m : List Entry) (M : Mirrors s m) where
         (λ q. let z : leb (keyIn (r .body)) (highIn (r .body)) ≡ true = le-leb (keyIn (r .body)) (highIn (r .body)) (ltb-false (highIn (r .body)) (keyIn (r .body)) q) in
         rw (k, eq-eqb (length (r .body)) 16 n, z, q) (ap (λ (es : List Entry). replyBytes 4 0 (scanBody (within (keyIn (r .body)) (highIn (r .body)) es))) mirror-contents))
 
-    pub mirror-answers : Agrees (mapReply m r) (replyOf r (serve s r))
-    mirror-answers = serve-cases s r (λ v. Agrees (mapReply m r) (replyOf r v)) (record {
-      unknown = λ k. silent-unknown (replyOf r (only 16 s)) k;
-      misfit = λ k b. silent-misfit (replyOf r (only 17 s)) b;
-      put = λ k lo hi. other-kind (replyOf r (servePut s (record { key = keyIn (r .body); value = some (valueIn (r .body)) }))) 1 k refl refl;
-      delete = λ k n. other-kind (replyOf r (servePut s (record { key = keyIn (r .body); value = none }))) 2 k refl refl;
+    pub mirror-answers : Agrees (mapReply m r) (compared r (replyOf r (serve s r)))
+    mirror-answers = serve-cases s r (λ v. Agrees (mapReply m r) (compared r (replyOf r v))) (record {
+      unknown = λ k. silent-unknown (compared r (replyOf r (only 16 s))) k;
+      misfit = λ k b. silent-misfit (compared r (replyOf r (only 17 s))) b;
+      put = λ k lo hi. other-kind (compared r (replyOf r (servePut s (record { key = keyIn (r .body); value = some (valueIn (r .body)) })))) 1 k refl refl refl;
+      delete = λ k n. other-kind (compared r (replyOf r (servePut s (record { key = keyIn (r .body); value = none })))) 2 k refl refl refl;
       look = look-agrees;
       scan = scan-agrees;
-      flush = λ k n. other-kind (replyOf r (serveFlush s)) 5 k refl refl;
-      tidy = λ k n. other-kind (replyOf r (serveTidy s)) 6 k refl refl;
-      report = λ k n. other-kind (replyOf r (serveReport s)) 7 k refl refl;
+      flush = λ k n. other-kind (compared r (replyOf r (serveFlush s))) 5 k refl refl refl;
+      tidy = λ k n. other-kind (compared r (replyOf r (serveTidy s))) 6 k refl refl refl;
+      probe = probe-agrees;
+      report = λ k n. other-kind (compared r (replyOf r (serveReport s))) 7 k refl refl refl;
     })

@@ -17,6 +17,7 @@ use Rattle.ldc.specs.Request.{Request, Served, keyIn, highIn, valueIn, o
 use Rattle.ldc.specs.Memtable.{put, servePut}
 use Rattle.ldc.specs.Place.{freePlaces, serveFlush}
 use Rattle.ldc.specs.Read.{readOrder, holdsValue, valueOf, lookUp, serveLookUp, serveScan, serveReport}
+use Rattle.ldc.specs.Probe.{serveProbe}
 use Rattle.ldc.specs.Tidy.{Step, idle, refused, moved, linked, merged, tidyStep}
 use Rattle.ldc.specs.Steps.{stepServed, serveTidy}
 use Rattle.ldc.specs.Serve.{serve}
@@ -203,6 +204,7 @@ module _ (s : Store) (S : Sound s) (m : List Entry) (M : Mirrors s m) (r : Reque
         (λ x. unfold serveScan in cases (ltb (highIn (r .body)) (keyIn (r .body))) (λ q. rw q) (λ q. rw q));
     flush = λ k n. kind-fed (serveFlush s) 5 k refl refl (flush-values s S);
     tidy = λ k n. kind-fed (serveTidy s) 6 k refl refl (tidy-values s S);
+    probe = λ k n. kind-fed (serveProbe s (keyIn (r .body))) 8 k refl refl (λ x. unfold serveProbe in refl);
     report = λ k n. kind-fed (serveReport s) 7 k refl refl (λ x. unfold serveReport in refl);
   })
 

@@ -18,6 +18,7 @@ use Rattle.ldc.specs.Lent.{Lent, sizesGood, storeOf, lentOf, broken}
 use Rattle.ldc.specs.Request.{Request, keyIn, highIn, valueIn}
 use Rattle.ldc.specs.Memtable.{servePut}
 use Rattle.ldc.specs.Read.{valueOf, lookUp, serveLookUp, serveScan, serveReport}
+use Rattle.ldc.specs.Probe.{serveProbe}
 use Rattle.ldc.specs.Serve.{serve}
 use Rattle.ldc.specs.Run.{run}
 use Rattle.ldc.specs.History.{serveList}
@@ -58,6 +59,7 @@ module _ (s : Store) (S : Sound s) (k : ℕ) where
     scan = λ i n. unfold serveScan in cases (ltb (highIn (r .body)) (keyIn (r .body))) (λ q. rw q) (λ q. rw q);
     flush = λ i n. flush-values s S k;
     tidy = λ i n. tidy-values s S k;
+    probe = λ i n. unfold serveProbe in refl;
     report = λ i n. unfold serveReport in refl;
   })
 

@@ -18,6 +18,7 @@ use Rattle.ldc.specs.Request.{Request, Served, known, bodyGood, keyIn, h
 use Rattle.ldc.specs.Memtable.{servePut}
 use Rattle.ldc.specs.Place.{freePlaces, flushed, serveFlush}
 use Rattle.ldc.specs.Read.{lookUp, serveLookUp, serveScan, serveReport}
+use Rattle.ldc.specs.Probe.{serveProbe}
 use Rattle.ldc.specs.Tidy.{Slice, Step, idle, refused, moved, linked, merged, tidyStep, slicesOf, mergedTables}
 use Rattle.ldc.specs.Steps.{stepServed, serveTidy, linkTo, doLink, doMerge}
 use Rattle.ldc.specs.Serve.{serve}
@@ -174,5 +175,6 @@ module _ (s : Store) (S : Sound s) (us : List Unmerged) (T : Tracks s us) where
           (unfold serveScan in cases (ltb (highIn (r .body)) (keyIn (r .body))) (λ q. rw q T) (λ q. rw q T));
       flush = λ k n. no-kind (serveFlush s) 5 k refl flush-tracks;
       tidy = tidy-after;
+      probe = λ k n. no-kind (serveProbe s (keyIn (r .body))) 8 k refl (unfold serveProbe in T);
       report = λ k n. no-kind (serveReport s) 7 k refl (unfold serveReport in T);
     })

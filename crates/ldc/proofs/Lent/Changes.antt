@@ -11,10 +11,10 @@ use lib.Seq.{sets}
 use Rattle.coding.proofs.Sets.{sets-all, sets-left, sets-right}
 use Rattle.table.specs.Limits.{placeSize}
 use Rattle.ldc.specs.Lists.{flat}
-use Rattle.ldc.specs.Store.{Card, Store, withCard, withLevel, withPlace, withCursor, withMarks}
+use Rattle.ldc.specs.Store.{Card, Store, bytesAt, withCard, withLevel, withPlace, withCursor, withMarks}
 use Rattle.ldc.specs.Lent.{lentOf}
 use Rattle.ldc.proofs.Basics.ListLaws.{Each}
-use Rattle.ldc.proofs.Lent.Parts.{padded, length-padded}
+use Rattle.ldc.proofs.Lent.Parts.{rows-card, rows-both, padded, length-padded}
 use Rattle.ldc.specs.Layout.{rowOf, markWords, lengthWord}
 
 -- ---- lists of equal parts
@@ -47,9 +47,15 @@ two-words none = (0, (0, refl))
 two-words (some k) = (1, (k, refl))
 
 module _ (s : Store) where
-  pub cards-withCard : (p : ℕ) (c : Card) → lentOf (withCard p c s) .cards ≡ set (lentOf s .cards) p (rowOf c)
+  pub cards-withCard : (p : ℕ) (c : Card) → lentOf (withCard p c s) .cards ≡ set (lentOf s .cards) p (rowOf c (bytesAt s p))
+  unfolding lentOf bytesAt
+  cards-withCard p c = rows-card (s .cards) (s .places) p c
+
+  -- a card changed with its place's bytes
+  pub cards-withPlace : (p : ℕ) (c : Card) (b : List ℕ) → p < length (s .places)
+      → lentOf (withPlace p b (withCard p c s)) .cards ≡ set (lentOf s .cards) p (rowOf c b)
   unfolding lentOf
-  cards-withCard p c = map-set rowOf (s .cards) p c
+  cards-withPlace p c b h = rows-both (s .cards) (s .places) p c b h
 
   pub area-withPlace : (p : ℕ) (b : List ℕ) → Each placeSize (s .places) → p < length (s .places) → length b ≡ placeSize
       → lentOf (withPlace p b s) .area ≡ sets (lentOf s .area) (p * placeSize) b

@@ -12,8 +12,8 @@ use lib.ListN.{getD}
 use Rattle.table.specs.Table.{isMemory}
 use Rattle.table.proofs.Tests.{and-parts}
 use Rattle.ldc.specs.Lists.{all, isEmpty}
-use Rattle.ldc.specs.Rules.{ruleA, ruleC, ruleE, ruleF, ruleG}
-use Rattle.ldc.specs.Lent.{Lent, storeOf, countsGood, unusedZero, keptB, presupposed, keptE, keptF, keptG, letter, broken, firstBroken, letterA, letterB, letterC, letterD, letterE, letterF, letterG}
+use Rattle.ldc.specs.Rules.{ruleA, ruleE, ruleF, ruleG}
+use Rattle.ldc.specs.Lent.{Lent, storeOf, countsGood, unusedZero, keptB, keptC, presupposed, keptE, keptF, keptG, letter, broken, firstBroken, letterA, letterB, letterC, letterD, letterE, letterF, letterG}
 use Rattle.ldc.specs.Run.{letterOf}
 
 -- ---- letters rise
@@ -43,7 +43,7 @@ rising m =
     let f = before (keptF m) letterF _ (rw append-nil at g) in
     let e = before (keptE m) letterE _ f in
     let d = before (isMemory (m .memory)) letterD _ e in
-    let c = before (ruleC (storeOf m)) letterC _ d in
+    let c = before (keptC m) letterC _ d in
     before (ruleA (storeOf m)) letterA _ (before (keptB m) letterB _ c)
 
 -- ---- the first: none comes before it, and it is 0 exactly where none is broken
@@ -92,10 +92,10 @@ pub first-settled : (m : Lent) (e f g : Bool)
     → (presupposed m ≡ true → e ≡ (countsGood m && ruleE (storeOf m)))
     → (presupposed m ≡ true → (countsGood m && ruleE (storeOf m)) ≡ true → f ≡ ruleF (storeOf m))
     → (presupposed m ≡ true → (countsGood m && ruleE (storeOf m)) ≡ true → g ≡ (unusedZero m && ruleG (storeOf m)))
-    → firstOf (ruleA (storeOf m)) (keptB m) (ruleC (storeOf m)) (isMemory (m .memory)) e f g ≡ firstBroken m
+    → firstOf (ruleA (storeOf m)) (keptB m) (keptC m) (isMemory (m .memory)) e f g ≡ firstBroken m
 unfolding firstBroken broken keptE keptF keptG presupposed
 first-settled m e f g he hf hg =
-    settled (ruleA (storeOf m)) (keptB m) (ruleC (storeOf m)) (isMemory (m .memory)) (countsGood m && ruleE (storeOf m)) (ruleF (storeOf m))
+    settled (ruleA (storeOf m)) (keptB m) (keptC m) (isMemory (m .memory)) (countsGood m && ruleE (storeOf m)) (ruleF (storeOf m))
     (unusedZero m && ruleG (storeOf m)) e f g he hf hg
 
 -- ---- the letter with a number

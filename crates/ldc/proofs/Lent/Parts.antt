@@ -1,24 +1,28 @@
 -- There and back for each piece of the book by itself: a card and its row, a mark and its two words, a level list and its part of
 -- the lists. Rows go by induction on the links, four words at a time.
-use Prim.Native.Nat.{ℕ, zero, suc, _+_, _*_, _-_, _≤_, min}
-use mathlib.Core.Path.{_≡_, refl, sym, _∙_, ap}
-use mathlib.Core.Bool.{true, _&&_}
-use mathlib.Core.List.{List, [], _∷_, _++_, map}
+use Prim.Native.Nat.{ℕ, zero, suc, _+_, _*_, _-_, _≤_, _<_, min}
+use mathlib.Core.Path.{_≡_, refl, sym, _∙_, ap, ap₂}
+use mathlib.Core.Bool.{Bool, true, cond, _&&_, _||_}
+use mathlib.Core.List.{List, [], _∷_, _++_, map, append-assoc, List·Memᴰ, List·Memᴰ·head, List·Memᴰ·tail}
 use mathlib.Core.Logic.{⊎-elim}
 use mathlib.Core.Option.{Option, some, none}
 use native.Mathlib.Omega.{arith}
 use native.Mathlib.Nat.{add-zero}
 use borrow.Author.Tests.{eqb-true, eqb-false, leb-true}
 use lib.Dec.{eqb, leb}
-use lib.ListN.{length, getD, take, drop, length-append, length-drop, take-append-drop}
-use lib.Seq.{length-take-le, drop-at, drop-append-seam, drop-drop, drop-cons, getD-drop}
+use lib.ListN.{length, getD, set, take, drop, length-append, length-drop, take-append-drop}
+use lib.Seq.{length-take-le, take-at, drop-at, drop-append-seam, drop-drop, drop-cons, getD-drop}
 use Rattle.table.specs.Table.{allZero, zeros}
 use Rattle.table.proofs.Tests.{and-parts, or-parts, cases}
 use Rattle.table.proofs.Zeros.{length-zeros, zero-bytes, zeros-zero}
-use Rattle.ldc.specs.Lists.{flat}
-use Rattle.ldc.specs.Store.{Link, Card, free, live, frozen, linksOf}
-use Rattle.ldc.specs.Lent.{rowGood}
-use Rattle.ldc.specs.Layout.{stateOf, linkCount, linksAt, cardOf, markOf, linkWords, stateWord, rowOf, markWords, markGood, rowSize, rowRest, linkLimit, rowHead, linkSize, linkStart, liveState}
+use Rattle.ldc.specs.Lists.{all, flat}
+use Rattle.summary.specs.Summary.{summaryWords, sameWords}
+use Rattle.summary.proofs.Same.{same-true, same-refl}
+use Rattle.ldc.specs.Store.{Link, Card, free, live, frozen, linksOf, isFree}
+use Rattle.ldc.specs.Lent.{rowGood, summaryGood}
+use Rattle.ldc.proofs.Basics.ListLaws.{drop-take}
+use Rattle.ldc.specs.Layout.{stateOf, linkCount, linksAt, cardOf, markOf, linkWords, stateWord, markWords, markGood, linkLimit, rowHead, linkSize, linkStart, liveState}
+use Rattle.ldc.specs.Layout.{summaryStart, rowSize, summaryIn, tableSummary, summaryOn, rowWith, rowOf, rowsOf, rowRest}
 
 -- ---- links
 
@@ -64,47 +68,136 @@ pub length-linksAt : (n : ℕ) (row : List ℕ) (at : ℕ) → length (linksAt n
 length-linksAt zero row at = refl
 length-linksAt (suc n) row at = ap suc (length-linksAt n row (at + linkSize))
 
+-- ---- zeros
+
+pub zero-append : (s t : List ℕ) → allZero (s ++ t) ≡ (allZero s && allZero t)
+unfolding allZero
+zero-append [] t = refl
+zero-append (b ∷ s) t = cases (eqb b 0) (λ q. rw q (zero-append s t)) (λ q. rw q)
+
 -- ---- cards
 
 -- A card with no more links than there is room for is read back from its row.
-pub card-back : (c : Card) → length (linksOf c) ≤ linkLimit → cardOf (rowOf c) ≡ c
-unfolding cardOf rowOf stateOf linkCount
-card-back free h = refl
-card-back frozen h = refl
-card-back (live ls) h =
+pub card-back : (c : Card) (summary : List ℕ) → length (linksOf c) ≤ linkLimit → cardOf (rowWith c summary) ≡ c
+unfolding cardOf rowWith stateOf linkCount
+card-back free summary h = refl
+card-back frozen summary h = refl
+card-back (live ls) summary h =
     let n : min (length ls) linkLimit ≡ length ls = omega arith in
-    rw (n, links-back ls (liveState ∷ length ls ∷ (linkWords ls ++ zeros (linkSize * linkLimit - linkSize * length ls))) rowHead (zeros (linkSize * linkLimit - linkSize * length ls)) refl)
+    let rest : List ℕ = zeros (linkSize * linkLimit - linkSize * length ls) ++ summary in
+    rw (n, links-back ls (liveState ∷ length ls ∷ (linkWords ls ++ rest)) rowHead rest refl)
 
-pub length-rowOf : (c : Card) → length (linksOf c) ≤ linkLimit → length (rowOf c) ≡ rowSize
+-- What stands before the summary.
+unfoldable bodyOf : Card → List ℕ
+bodyOf c = stateWord c ∷ length (linksOf c) ∷ (linkWords (linksOf c) ++ zeros (linkSize * linkLimit - linkSize * length (linksOf c)))
+
+row-split : (c : Card) (summary : List ℕ) → rowWith c summary ≡ bodyOf c ++ summary
+unfolding rowWith bodyOf
+row-split c summary =
+    ap (λ (ws : List ℕ). stateWord c ∷ length (linksOf c) ∷ ws)
+    (sym (append-assoc (linkWords (linksOf c)) (zeros (linkSize * linkLimit - linkSize * length (linksOf c))) summary))
+
+length-body : (c : Card) → length (linksOf c) ≤ linkLimit → length (bodyOf c) ≡ summaryStart
+unfolding bodyOf
+length-body c h = rw (length-append, length-linkWords, length-zeros) (omega arith)
+
+-- The summary in a row is the one that it was given.
+pub summary-back : (c : Card) (summary : List ℕ) → length (linksOf c) ≤ linkLimit → summaryIn (rowWith c summary) ≡ summary
+summary-back c summary h = rw (row-split c summary) (drop-at (bodyOf c) summary summaryStart (length-body c h))
+
+pub length-rowWith : (c : Card) (summary : List ℕ) → length (linksOf c) ≤ linkLimit → length summary ≡ summaryWords
+    → length (rowWith c summary) ≡ rowSize
+length-rowWith c summary h n = rw (row-split c summary, length-append, length-body c h) (omega arith)
+
+length-on : (c : Card) (bytes : List ℕ) → length (summaryOn c bytes) ≡ summaryWords
+unfolding tableSummary
+length-on free bytes = length-zeros summaryWords
+length-on (live ls) bytes = refl
+length-on frozen bytes = refl
+
+pub length-rowOf : (c : Card) (bytes : List ℕ) → length (linksOf c) ≤ linkLimit → length (rowOf c bytes) ≡ rowSize
 unfolding rowOf
-length-rowOf c h = rw (length-append, length-linkWords, length-zeros) (omega arith)
+length-rowOf c bytes h = length-rowWith c (summaryOn c bytes) h (length-on c bytes)
 
 -- The row of a card keeps the rules of numbers: its count is that of its links, and the rest is zero.
-pub count-rowOf : (c : Card) → linkCount (rowOf c) ≡ length (linksOf c)
-unfolding linkCount rowOf
-count-rowOf c = refl
+pub count-rowWith : (c : Card) (summary : List ℕ) → linkCount (rowWith c summary) ≡ length (linksOf c)
+unfolding linkCount rowWith
+count-rowWith c summary = refl
 
-pub good-rowOf : (c : Card) → rowGood (rowOf c) ≡ true
-unfolding rowGood stateOf linkCount rowOf
-good-rowOf free = refl
-good-rowOf (live ls) = refl
-good-rowOf frozen = refl
+pub good-rowWith : (c : Card) (summary : List ℕ) → rowGood (rowWith c summary) ≡ true
+unfolding rowGood stateOf linkCount rowWith
+good-rowWith free summary = refl
+good-rowWith (live ls) summary = refl
+good-rowWith frozen summary = refl
 
-pub rest-rowOf : (c : Card) → allZero (rowRest (rowOf c)) ≡ true
-unfolding linkCount rowOf
-rest-rowOf c =
+pub count-rowOf : (c : Card) (bytes : List ℕ) → linkCount (rowOf c bytes) ≡ length (linksOf c)
+unfolding rowOf
+count-rowOf c bytes = count-rowWith c (summaryOn c bytes)
+
+pub good-rowOf : (c : Card) (bytes : List ℕ) → rowGood (rowOf c bytes) ≡ true
+unfolding rowOf
+good-rowOf c bytes = good-rowWith c (summaryOn c bytes)
+
+-- Zeros behind the links.
+links-rest : (c : Card) → allZero (drop (linkStart (length (linksOf c))) (bodyOf c)) ≡ true
+unfolding bodyOf
+links-rest c =
     let n : ℕ = length (linksOf c) in
     let e : linkStart n ≡ suc (suc (linkSize * n)) = omega arith in
     rw (e, drop-at (linkWords (linksOf c)) (zeros (linkSize * linkLimit - linkSize * n)) (linkSize * n) (length-linkWords (linksOf c))) (zeros-zero (linkSize * linkLimit - linkSize * n))
 
--- A whole row is made of its state, its count, as many links, and zeros if the rest is zero.
-row-parts : (n : ℕ) (row : List ℕ) → length row ≡ rowSize → n ≤ linkLimit → allZero (drop (linkStart n) row) ≡ true
-    → getD row 0 0 ∷ getD row 1 0 ∷ (linkWords (linksAt n row rowHead) ++ zeros (linkSize * linkLimit - linkSize * n)) ≡ row
+free-rest : (c : Card) (bytes : List ℕ) → allZero (cond (isFree c) (summaryOn c bytes) []) ≡ true
+unfolding allZero
+free-rest free bytes = zeros-zero summaryWords
+free-rest (live ls) bytes = refl
+free-rest frozen bytes = refl
+
+pub rest-rowOf : (c : Card) (bytes : List ℕ) → length (linksOf c) ≤ linkLimit → allZero (rowRest (rowOf c bytes)) ≡ true
+unfolding rowRest rowOf
+rest-rowOf c bytes h =
+    let words : List ℕ = summaryOn c bytes in
+    let n : linkCount (rowWith c words) ≡ length (linksOf c) = unfold rowOf in count-rowOf c bytes in
+    let front : take summaryStart (rowWith c words) ≡ bodyOf c =
+    rw (row-split c words) (take-at (bodyOf c) words summaryStart (length-body c h)) in
+    rw (n, front, card-back c words h, summary-back c words h)
+    (zero-append (drop (linkStart (length (linksOf c))) (bodyOf c)) (cond (isFree c) words []) ∙ rw (links-rest c) (free-rest c bytes))
+
+on-right : (c : Card) (bytes : List ℕ) → (isFree c || sameWords (summaryOn c bytes) (tableSummary bytes)) ≡ true
+on-right free bytes = refl
+on-right (live ls) bytes = same-refl (tableSummary bytes)
+on-right frozen bytes = same-refl (tableSummary bytes)
+
+-- Right bits, and none where the place is free, are the summary on the card.
+on-back : (c : Card) (bytes words : List ℕ) → length words ≡ summaryWords → allZero (cond (isFree c) words []) ≡ true
+    → (isFree c || sameWords words (tableSummary bytes)) ≡ true → summaryOn c bytes ≡ words
+on-back free bytes words n z r = sym (zero-bytes words z ∙ rw n)
+on-back (live ls) bytes words n z r = sym (same-true words (tableSummary bytes) r)
+on-back frozen bytes words n z r = sym (same-true words (tableSummary bytes) r)
+
+-- The bits on the card are right.
+pub summary-rowOf : (c : Card) (bytes : List ℕ) → length (linksOf c) ≤ linkLimit → summaryGood (rowOf c bytes) bytes ≡ true
+unfolding summaryGood rowOf
+summary-rowOf c bytes h =
+    rw (card-back c (summaryOn c bytes) h, summary-back c (summaryOn c bytes) h) (on-right c bytes)
+
+-- A whole row is made of its state, its count, as many links, zeros if the rest is zero, and its summary.
+row-parts : (n : ℕ) (row : List ℕ) → length row ≡ rowSize → n ≤ linkLimit → allZero (drop (linkStart n) (take summaryStart row)) ≡ true
+    → getD row 0 0 ∷ getD row 1 0 ∷ (linkWords (linksAt n row rowHead) ++ (zeros (linkSize * linkLimit - linkSize * n) ++ summaryIn row)) ≡ row
 row-parts n row h few rest =
-    let size : length (drop (linkStart n) row) ≡ linkSize * linkLimit - linkSize * n = rw length-drop (omega arith) in
-    let end : drop (linkSize * n) (drop rowHead row) ≡ zeros (linkSize * linkLimit - linkSize * n) =
-    drop-drop (linkSize * n) rowHead row ∙ rw size at (zero-bytes (drop (linkStart n) row) rest) in
-    let links : linkWords (linksAt n row rowHead) ++ zeros (linkSize * linkLimit - linkSize * n) ≡ drop rowHead row =
+    let behind : List ℕ = drop (linkStart n) row in
+    let mid : drop (linkStart n) (take summaryStart row) ≡ take (linkSize * linkLimit - linkSize * n) behind =
+    let e : summaryStart - linkStart n ≡ linkSize * linkLimit - linkSize * n = omega arith in
+    drop-take (linkStart n) summaryStart row ∙ ap (λ (k : ℕ). take k behind) e in
+    let size : length (take (linkSize * linkLimit - linkSize * n) behind) ≡ linkSize * linkLimit - linkSize * n =
+    length-take-le (linkSize * linkLimit - linkSize * n) behind (rw length-drop (omega arith)) in
+    let zero : take (linkSize * linkLimit - linkSize * n) behind ≡ zeros (linkSize * linkLimit - linkSize * n) =
+    rw size at (zero-bytes (take (linkSize * linkLimit - linkSize * n) behind) (rw mid at rest)) in
+    let last : drop (linkSize * linkLimit - linkSize * n) behind ≡ summaryIn row =
+    let e : linkStart n + (linkSize * linkLimit - linkSize * n) ≡ summaryStart = omega arith in
+    drop-drop (linkSize * linkLimit - linkSize * n) (linkStart n) row ∙ ap (λ (k : ℕ). drop k row) e in
+    let end : drop (linkSize * n) (drop rowHead row) ≡ zeros (linkSize * linkLimit - linkSize * n) ++ summaryIn row =
+    drop-drop (linkSize * n) rowHead row ∙ sym (take-append-drop (linkSize * linkLimit - linkSize * n) behind) ∙ ap₂ _++_ zero last in
+    let links : linkWords (linksAt n row rowHead) ++ (zeros (linkSize * linkLimit - linkSize * n) ++ summaryIn row) ≡ drop rowHead row =
     rw (words-back n row rowHead (omega arith), ← end) (take-append-drop (linkSize * n) (drop rowHead row)) in
     rw links (sym (drop-cons row 0 0 (omega arith) ∙ ap (λ (s : List ℕ). getD row 0 0 ∷ s) (drop-cons row 1 0 (omega arith))))
 
@@ -129,11 +222,85 @@ module _ (row : List ℕ) (good : rowGood row ≡ true) where
       eqb-true (linkCount row) 0 (and-parts (leb (stateOf row) 2) (eqb (linkCount row) 0) (rw q at good) .1) in
       cases (eqb (stateOf row) 2) (λ r. rw (q, r, n)) (λ r. rw (q, r, n)))
 
-  -- A whole row that keeps the rules is the one of its card.
-  pub row-back : length row ≡ rowSize → linkCount row ≤ linkLimit → allZero (rowRest row) ≡ true → rowOf (cardOf row) ≡ row
-  unfolding rowOf stateOf linkCount
-  row-back h few rest =
-      rw (state-of, links-of few, length-linksAt) (row-parts (linkCount row) row h few rest)
+  -- A whole row that keeps the rules is the one of its card and its place.
+  module _ (bytes : List ℕ) (long : length row ≡ rowSize) (few : linkCount row ≤ linkLimit)
+      (rest : allZero (rowRest row) ≡ true) (right : summaryGood row bytes ≡ true) where
+    rests : (allZero (drop (linkStart (linkCount row)) (take summaryStart row)) ≡ true)
+        × (allZero (cond (isFree (cardOf row)) (summaryIn row) []) ≡ true)
+    unfolding rowRest
+    rests =
+        let front : List ℕ = drop (linkStart (linkCount row)) (take summaryStart row) in
+        let behind : List ℕ = cond (isFree (cardOf row)) (summaryIn row) [] in
+        and-parts (allZero front) (allZero behind) (sym (zero-append front behind) ∙ rest)
+
+    summary-of : summaryOn (cardOf row) bytes ≡ summaryIn row
+    unfolding summaryGood
+    summary-of =
+        on-back (cardOf row) bytes (summaryIn row) (rw length-drop (omega arith)) (rests .1) right
+
+    pub row-back : rowOf (cardOf row) bytes ≡ row
+    unfolding rowOf rowWith stateOf linkCount
+    row-back =
+        rw (summary-of, state-of, links-of few, length-linksAt) (row-parts (linkCount row) row long few (rests .0))
+
+-- ---- the rows of all cards
+
+pub length-rows : (cs : List Card) (bs : List (List ℕ)) → length (rowsOf cs bs) ≡ length cs
+length-rows [] bs = refl
+length-rows (c ∷ cs) [] = ap suc (length-rows cs [])
+length-rows (c ∷ cs) (b ∷ bs) = ap suc (length-rows cs bs)
+
+pub getD-rows : (cs : List Card) (bs : List (List ℕ)) (p : ℕ) → p < length cs → getD (rowsOf cs bs) p [] ≡ rowOf (getD cs p free) (getD bs p [])
+getD-rows [] bs p h = absurd (omega arith)
+getD-rows (c ∷ cs) [] zero h = refl
+getD-rows (c ∷ cs) [] (suc p) h = getD-rows cs [] p (omega arith)
+getD-rows (c ∷ cs) (b ∷ bs) zero h = refl
+getD-rows (c ∷ cs) (b ∷ bs) (suc p) h = getD-rows cs bs p (omega arith)
+
+-- One card changed, and one with its place.
+pub rows-card : (cs : List Card) (bs : List (List ℕ)) (p : ℕ) (c : Card) → rowsOf (set cs p c) bs ≡ set (rowsOf cs bs) p (rowOf c (getD bs p []))
+rows-card [] bs p c = refl
+rows-card (x ∷ cs) [] zero c = refl
+rows-card (x ∷ cs) [] (suc p) c = ap (λ (rows : List (List ℕ)). rowOf x [] ∷ rows) (rows-card cs [] p c)
+rows-card (x ∷ cs) (b ∷ bs) zero c = refl
+rows-card (x ∷ cs) (b ∷ bs) (suc p) c = ap (λ (rows : List (List ℕ)). rowOf x b ∷ rows) (rows-card cs bs p c)
+
+pub rows-both : (cs : List Card) (bs : List (List ℕ)) (p : ℕ) (c : Card) (b : List ℕ) → p < length bs
+    → rowsOf (set cs p c) (set bs p b) ≡ set (rowsOf cs bs) p (rowOf c b)
+rows-both [] bs p c b h = refl
+rows-both (x ∷ cs) [] p c b h = absurd (omega arith)
+rows-both (x ∷ cs) (y ∷ bs) zero c b h = refl
+rows-both (x ∷ cs) (y ∷ bs) (suc p) c b h = ap (λ (rows : List (List ℕ)). rowOf x y ∷ rows) (rows-both cs bs p c b (omega arith))
+
+-- What holds of the row of each card at its place, holds of all rows.
+pub all-rows : (test : List ℕ → Bool) (cs : List Card) (bs : List (List ℕ))
+    → ((c : Card) (b : List ℕ) → List·Memᴰ c cs → test (rowOf c b) ≡ true) → all test (rowsOf cs bs) ≡ true
+all-rows test [] bs h = refl
+all-rows test (c ∷ cs) [] h =
+    rw (h c [] (List·Memᴰ·head refl)) (all-rows test cs [] (λ x b m. h x b (List·Memᴰ·tail m)))
+all-rows test (c ∷ cs) (b ∷ bs) h =
+    rw (h c b (List·Memᴰ·head refl)) (all-rows test cs bs (λ x y m. h x y (List·Memᴰ·tail m)))
+
+-- Cards are read back from their rows, and rows that are those of their cards and places from these.
+pub cards-rows : (cs : List Card) (bs : List (List ℕ)) → ((c : Card) → List·Memᴰ c cs → length (linksOf c) ≤ linkLimit) → map cardOf (rowsOf cs bs) ≡ cs
+unfolding rowOf
+cards-rows [] bs h = refl
+cards-rows (c ∷ cs) [] h =
+    rw (card-back c (summaryOn c []) (h c (List·Memᴰ·head refl)), cards-rows cs [] (λ x m. h x (List·Memᴰ·tail m)))
+cards-rows (c ∷ cs) (b ∷ bs) h =
+    rw (card-back c (summaryOn c b) (h c (List·Memᴰ·head refl)), cards-rows cs bs (λ x m. h x (List·Memᴰ·tail m)))
+
+pub rows-cards : (rows bs : List (List ℕ)) → ((p : ℕ) → p < length rows → rowOf (cardOf (getD rows p [])) (getD bs p []) ≡ getD rows p [])
+    → rowsOf (map cardOf rows) bs ≡ rows
+rows-cards [] bs h = refl
+rows-cards (row ∷ rows) [] h =
+    let first = h 0 (omega arith) in
+    let rest = rows-cards rows [] (λ p n. h (suc p) (omega arith)) in
+    cc
+rows-cards (row ∷ rows) (b ∷ bs) h =
+    let first = h 0 (omega arith) in
+    let rest = rows-cards rows bs (λ p n. h (suc p) (omega arith)) in
+    cc
 
 -- ---- marks
 

@@ -17,10 +17,10 @@ use Rattle.ldc.specs.Store.{Card, free, Store, size, card, links, linksO
 use Rattle.ldc.specs.Rules.{timesListed}
 use Rattle.ldc.specs.Lent.{placesIn, sizesGood, listLength, listPart, chop, levelOf, storeOf, lentOf}
 use Rattle.ldc.proofs.Stores.Sound.{Sound, Whole}
-use Rattle.ldc.proofs.Basics.ListLaws.{spell, map-back, getD-map, getD-mem, at-most, parts, Each, length-flat, length-within, getD-parts, parts-flat}
-use Rattle.ldc.proofs.Lent.Parts.{card-back, marks-read, length-marks, padded, length-padded}
+use Rattle.ldc.proofs.Basics.ListLaws.{spell, getD-map, getD-mem, at-most, parts, Each, length-flat, length-within, getD-parts, parts-flat}
+use Rattle.ldc.proofs.Lent.Parts.{length-rows, cards-rows, marks-read, length-marks, padded, length-padded}
 use Rattle.ldc.proofs.Stores.SoundRules.{beyond, threshold-eight}
-use Rattle.ldc.specs.Layout.{cardOf, rowOf, markWords, mostPlaces, fewestPlaces, linkLimit}
+use Rattle.ldc.specs.Layout.{markWords, mostPlaces, fewestPlaces, linkLimit}
 
 -- Places are parts of 1,024 bytes.
 pub chop-parts : (n : ℕ) (s : List ℕ) → chop n s ≡ parts placeSize n s
@@ -89,7 +89,7 @@ module _ (s : Store) (so : Sound s) (w : Whole s) where
   unfolding sizesGood
   sizes-lentOf =
       let whole : length (lentOf s .area) % placeSize ≡ 0 = omega (arith, length-area) in
-      let cards : length (lentOf s .cards) ≡ size s = unfold lentOf size in (length-map (s .cards) rowOf) in
+      let cards : length (lentOf s .cards) ≡ size s = unfold lentOf size in (length-rows (s .cards) (s .places)) in
       rw (places-lentOf, eq-eqb _ _ whole, le-leb fewestPlaces (size s) (so .fewest), le-leb (size s) mostPlaces (so .most), eq-eqb _ _ cards)
       (eq-eqb _ _ length-lists)
 
@@ -131,7 +131,7 @@ module _ (s : Store) (so : Sound s) (w : Whole s) where
 
   cards-back : storeOf (lentOf s) .cards ≡ s .cards
   unfolding storeOf lentOf
-  cards-back = map-back rowOf cardOf (s .cards) (λ c m. card-back c (few-links s so c m))
+  cards-back = cards-rows (s .cards) (s .places) (few-links s so)
 
   places-back : storeOf (lentOf s) .places ≡ s .places
   unfolding storeOf

@@ -10,10 +10,10 @@ use Rattle.ldc.specs.Lists.{flat}
 use Rattle.ldc.specs.Store.{free, Store, bytesAt}
 use Rattle.ldc.specs.Lent.{lentOf}
 use Rattle.ldc.proofs.Stores.Sound.{Sound}
-use Rattle.ldc.proofs.Basics.ListLaws.{getD-map, mem-getD, parts}
-use Rattle.ldc.proofs.Lent.Parts.{length-rowOf, length-marks}
+use Rattle.ldc.proofs.Basics.ListLaws.{mem-getD, parts}
+use Rattle.ldc.proofs.Lent.Parts.{length-rowOf, length-rows, getD-rows, length-marks}
 use Rattle.ldc.proofs.Lent.Round.{few-links}
-use Rattle.ldc.specs.Layout.{rowOf, markWords}
+use Rattle.ldc.specs.Layout.{markWords}
 use Rattle.ldc.specs.Facts.{Shape}
 
 -- ---- bytes end to end
@@ -33,8 +33,8 @@ pub shape-lentOf : (s : Store) → Sound s → ((p : ℕ) → Bytes (bytesAt s p
 unfolding lentOf bytesAt
 shape-lentOf s so bytes = record {
   rows = λ i h.
-      let near : i < length (s .cards) = omega (arith, length-map (s .cards) rowOf) in
-      rw (getD-map rowOf (s .cards) i free [] near) (length-rowOf _ (few-links s so _ (mem-getD (s .cards) i free near)));
+      let near : i < length (s .cards) = omega (arith, length-rows (s .cards) (s .places)) in
+      rw (getD-rows (s .cards) (s .places) i near) (length-rowOf _ _ (few-links s so _ (mem-getD (s .cards) i free near)));
   head = let two = length-marks (s .marks) in
       let four = length-map (s .levels) (λ ps. length ps) in
       let all = length-append (flat (map markWords (s .marks))) (map (λ ps. length ps) (s .levels)) in

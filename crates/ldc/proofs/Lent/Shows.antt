@@ -16,15 +16,15 @@ use Rattle.table.proofs.Tests.{and-parts, cases}
 use Rattle.table.proofs.Encode.{encode, shows-valid}
 use Rattle.ldc.specs.Lists.{all, allFrom}
 use Rattle.ldc.specs.Store.{free, size, card, links, bytesAt}
-use Rattle.ldc.specs.Lent.{Lent, placesIn, sizesGood, listLength, listPart, levelOf, storeOf, lentOf, rowGood, numbersGood, countsGood, unusedZero, broken}
+use Rattle.ldc.specs.Lent.{Lent, placesIn, sizesGood, listLength, listPart, levelOf, storeOf, lentOf, rowGood, numbersGood, summaryGood, summariesGood, countsGood, unusedZero, broken, chop}
 use Rattle.ldc.proofs.Stores.Sound.{Sound, Whole}
-use Rattle.ldc.proofs.Basics.ListLaws.{all-at, below-at, mem-getD, getD-mem, getD-map, map-back, spell, parts, length-parts, getD-parts, each-part, flat-parts}
-use Rattle.ldc.proofs.Lent.Parts.{length-linksAt, links-of, row-back, words-of-mark, padded, part-back}
+use Rattle.ldc.proofs.Basics.ListLaws.{all-at, below-at, mem-getD, getD-map, spell, parts, length-parts, getD-parts, each-part, flat-parts}
+use Rattle.ldc.proofs.Lent.Parts.{length-linksAt, links-of, row-back, rows-cards, words-of-mark, padded, part-back}
 use Rattle.ldc.proofs.Stores.SoundRules.{beyond, threshold-eight, sound-of}
 use Rattle.ldc.proofs.Lent.Round.{chop-parts}
 use Rattle.ldc.proofs.Lent.Rules.{Unbroken, unbroken}
 use Rattle.ldc.proofs.Lent.Shape.{bytes-parts}
-use Rattle.ldc.specs.Layout.{linkCount, cardOf, rowOf, markGood, marksGood, rowRest, rowSize, mostPlaces, linkLimit}
+use Rattle.ldc.specs.Layout.{linkCount, cardOf, markGood, marksGood, rowRest, mostPlaces, linkLimit}
 use Rattle.ldc.specs.Facts.{Shape}
 
 -- ---- sizes
@@ -145,13 +145,14 @@ module _ (m : Lent) (sh : Shape m) (z : sizesGood m ≡ true) (k : broken m ≡ 
   unfolding lentOf storeOf
   cards-back =
       let u = unbroken m k in
-      map-back cardOf rowOf (m .cards)
-      (λ row r.
-      let spot = getD-mem (m .cards) [] r in
-      let long : length row ≡ rowSize = rw (spot .2) at (sh .rows (spot .0) (spot .1)) in
+      rows-cards (m .cards) (chop (placesIn (m .area)) (m .area))
+      (λ p h. let row : List ℕ = getD (m .cards) p [] in
+      let r : List·Memᴰ row (m .cards) = mem-getD (m .cards) p [] h in
       let few : linkCount row ≤ linkLimit = omega (arith, row-count m u row r, threshold-eight (storeOf m) (u .store .a)) in
-      row-back row (row-good m u row r) long few
-      (all-at (λ x. allZero (rowRest x)) (m .cards) (unused m u .rows) r))
+      row-back row (row-good m u row r) (getD (chop (placesIn (m .area)) (m .area)) p []) (sh .rows p h) few
+      (all-at (λ x. allZero (rowRest x)) (m .cards) (unused m u .rows) r)
+      (unfold bytesAt storeOf summariesGood in
+      (below-at (length (m .cards)) (λ q. summaryGood (getD (m .cards) q []) (bytesAt (storeOf m) q)) (u .summaries) p h)))
 
   laid : List (List ℕ)
   laid = parts (placesIn (m .area)) 4 (m .lists)

@@ -16,11 +16,13 @@ use Rattle.ldc.specs.Request.{Request, Served, known, bodyGood, keyIn, h
 use Rattle.ldc.specs.Memtable.{put, servePut}
 use Rattle.ldc.specs.Place.{freePlaces, flushed, serveFlush}
 use Rattle.ldc.specs.Read.{lookUp, contents, scanBody, serveLookUp, serveScan, serveReport}
+use Rattle.ldc.specs.Probe.{serveProbe}
 use Rattle.ldc.specs.Tidy.{Step, idle, refused, moved, linked, merged, tidyStep}
 use Rattle.ldc.specs.Steps.{stepServed, serveTidy}
 use Rattle.ldc.specs.Serve.{serveKind, serve}
 use Rattle.ldc.specs.History.{Unmerged, stepOf, afterStep, unmerged}
 use Rattle.ldc.proofs.Serving.Alike.{Alike, alike-is, freePlaces-alike}
+use Rattle.ldc.proofs.Serving.AlikeProbe.{opened-alike, bits-alike}
 use Rattle.ldc.proofs.Serving.AlikeReads.{listed-bytes, lookUp-alike, contents-alike, tidyStep-alike, stepOf-alike}
 use Rattle.ldc.proofs.Serving.AlikeSteps.{alike-memory, alike-flush, alike-move, alike-link, alike-merge}
 use Rattle.ldc.proofs.Basics.Cases.{cases, maybe}
@@ -79,6 +81,11 @@ module _ (s s′ : Store) (S : Sound s) (a : Alike s s′) where
       same-cond (ltb high low) (same-only 19)
       (same-done s s′ (scanBody (within low high (contents s))) (scanBody (within low high (contents s′))) a (rw (contents-alike s s′ S a)))
 
+  same-probe : (k : ℕ) → SameServed (serveProbe s k) (serveProbe s′ k)
+  unfolding serveProbe
+  same-probe k =
+      same-done s s′ _ _ a (rw (lookUp-alike s s′ S a k, opened-alike s s′ S a k, bits-alike s s′ S a k))
+
   same-report : SameServed (serveReport s) (serveReport s′)
   unfolding serveReport level
   same-report = record { same-result = refl; same-body = ap (λ x. serveReport x .body) (alike-is s s′ a); alike = a }
@@ -103,7 +110,8 @@ module _ (s s′ : Store) (S : Sound s) (a : Alike s s′) where
       (same-cond (eqb kind 4) (same-scan (keyIn body) (highIn body))
       (same-cond (eqb kind 5) same-flush
       (same-cond (eqb kind 6) same-tidy
-      same-report)))))
+      (same-cond (eqb kind 8) (same-probe (keyIn body))
+      same-report))))))
 
   pub alike-serve : (r : Request) → SameServed (serve s r) (serve s′ r)
   unfolding serve

@@ -20,6 +20,7 @@ use Rattle.ldc.specs.Request.{Request, keyIn, highIn, valueIn}
 use Rattle.ldc.specs.Memtable.{put, servePut}
 use Rattle.ldc.specs.Place.{freePlaces, serveFlush}
 use Rattle.ldc.specs.Read.{lookUp, lookUpServed, serveLookUp, serveScan, serveReport}
+use Rattle.ldc.specs.Probe.{serveProbe}
 use Rattle.ldc.specs.Tidy.{Step, idle, refused, moved, linked, merged, tidyStep}
 use Rattle.ldc.specs.Steps.{stepServed, serveTidy}
 use Rattle.ldc.specs.Serve.{serve}
@@ -134,5 +135,6 @@ keeps s r S g = serve-cases s r (λ v. Sound (v .store)) (record {
   scan = λ k n. unfold serveScan in cases (ltb (highIn (r .body)) (keyIn (r .body))) (λ q. rw q S) (λ q. rw q S);
   flush = λ k n. flush-sound s S;
   tidy = λ k n. tidy-sound s S;
+  probe = λ k n. unfold serveProbe in S;
   report = λ k n. unfold serveReport in S;
 })

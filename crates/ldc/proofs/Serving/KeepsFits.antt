@@ -19,6 +19,7 @@ use Rattle.ldc.specs.Request.{Request, keyIn, highIn, valueIn}
 use Rattle.ldc.specs.Memtable.{servePut}
 use Rattle.ldc.specs.Place.{written, flushed, freePlaces, serveFlush}
 use Rattle.ldc.specs.Read.{lookUp, serveLookUp, serveScan, serveReport}
+use Rattle.ldc.specs.Probe.{serveProbe}
 use Rattle.ldc.specs.Tidy.{Slice, Step, idle, refused, moved, linked, merged, tidyStep, responsible, slicesOf}
 use Rattle.ldc.specs.Steps.{marksAfter, linkTo, leaves, doMove, doLink, stepServed, serveTidy}
 use Rattle.ldc.specs.Serve.{serve}
@@ -174,5 +175,6 @@ fits-keeps s r S f g = serve-cases s r (λ v. Fits (v .store)) (record {
   scan = λ k n. unfold serveScan in cases (ltb (highIn (r .body)) (keyIn (r .body))) (λ q. rw q f) (λ q. rw q f);
   flush = λ k n. flush-fits s S f;
   tidy = λ k n. tidy-fits s S f;
+  probe = λ k n. unfold serveProbe in f;
   report = λ k n. unfold serveReport in f;
 })

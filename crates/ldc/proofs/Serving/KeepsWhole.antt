@@ -18,6 +18,7 @@ use Rattle.ldc.specs.Request.{Request, keyIn, highIn, valueIn}
 use Rattle.ldc.specs.Memtable.{servePut}
 use Rattle.ldc.specs.Place.{placeTaken, written, writtenAll, placesTaken, flushed, freePlaces, serveFlush}
 use Rattle.ldc.specs.Read.{lookUp, serveLookUp, serveScan, serveReport}
+use Rattle.ldc.specs.Probe.{serveProbe}
 use Rattle.ldc.specs.Tidy.{Step, idle, refused, moved, linked, merged, tidyStep, slicesOf, mergedTables}
 use Rattle.ldc.specs.Steps.{leaves, doMove, doLink, stepServed, serveTidy}
 use Rattle.ldc.specs.Serve.{serve}
@@ -89,5 +90,6 @@ whole-keeps s r S w g = serve-cases s r (λ v. Whole (v .store)) (record {
   scan = λ k n. unfold serveScan in cases (ltb (highIn (r .body)) (keyIn (r .body))) (λ q. rw q w) (λ q. rw q w);
   flush = λ k n. flush-whole s S w;
   tidy = λ k n. tidy-whole s S w;
+  probe = λ k n. unfold serveProbe in w;
   report = λ k n. unfold serveReport in w;
 })

@@ -1,10 +1,10 @@
 -- A reply has 6 to 1,024 bytes, and says its length and its result. Its body is empty, a value, at most 16 entries behind four
--- bytes, or a few two-byte numbers: by the ways out of `serve`, one after the other.
+-- bytes, a few two-byte numbers, or a value behind eight bytes: by the ways out of `serve`, one after the other.
 use Prim.Native.Nat.{ℕ, _+_, _≤_, _<_}
 use mathlib.Core.Path.{_≡_, refl, _∙_, ap}
 use mathlib.Core.List.{List, [], _∷_, _++_, append-assoc}
 use mathlib.Core.Bool.{_||_}
-use mathlib.Core.Option.{some}
+use mathlib.Core.Option.{Option, some, Option·getD}
 use native.Mathlib.Omega.{arith}
 use lib.Dec.{eqb, ltb}
 use lib.ListN.{length, take, drop, length-append, length-take}
@@ -21,6 +21,7 @@ use Rattle.ldc.specs.Request.{Request, Served, replyBytes, replyOf, repl
 use Rattle.ldc.specs.Memtable.{servePut}
 use Rattle.ldc.specs.Place.{freePlaces, serveFlush}
 use Rattle.ldc.specs.Read.{gather, readOrder, holdsValue, contents, valueOf, lookUp, serveLookUp, scanLimit, scanBody, serveScan, serveReport}
+use Rattle.ldc.specs.Probe.{opened, bitsIn, probeBody, serveProbe}
 use Rattle.ldc.specs.Tidy.{Step, idle, refused, moved, linked, merged, tidyStep}
 use Rattle.ldc.specs.Steps.{stepServed, serveTidy}
 use Rattle.ldc.specs.Serve.{serveKind, serve}
@@ -105,6 +106,11 @@ report-short : (s : Store) → Short (serveReport s)
 unfolding serveReport bytesOf
 report-short s = omega arith
 
+-- Found, tables and bits take eight bytes before the value.
+pub length-probe : (v : Option (List ℕ)) (tables bits : ℕ) → length (probeBody v tables bits) ≡ 8 + length (Option·getD v [])
+unfolding probeBody
+length-probe v tables bits = simp (length-append, length-bytesOf) (omega arith)
+
 -- At most `scanLimit` entries, each as long as may be.
 pub scan-short : (es : List Entry) → Values es → replyHeadSize + length (scanBody es) ≤ roomLimit
 unfolding scanBody
@@ -134,6 +140,14 @@ module _ (s : Store) (S : Sound s) where
       cases (ltb high low) (λ q. rw q (omega arith))
       (λ q. let b = scan-short (within low high (contents s)) (values-keep _ (contents s) contents-values) in rw q (omega arith))
 
+  probe-short : (k : ℕ) → Short (serveProbe s k)
+  unfolding serveProbe
+  probe-short k =
+      let long : length (Option·getD (lookUp s k) []) ≤ valueLimit =
+      maybe (lookUp s k) (λ q. rw q (omega arith)) (λ v q. rw q (found-short k v q)) in
+      let n = length-probe (lookUp s k) (length (opened s k)) (bitsIn s (opened s k)) in
+      record { body = omega (arith, n, long); result = omega arith }
+
   kind-short : (kind : ℕ) (body : List ℕ) → Short (serveKind s kind body)
   unfolding serveKind serveTidy
   kind-short kind body =
@@ -143,7 +157,8 @@ module _ (s : Store) (S : Sound s) where
       (λ q. rw q (cases (eqb kind 4) (λ q. rw q (scans-short _ _))
       (λ q. rw q (cases (eqb kind 5) (λ q. rw q (flush-short s))
       (λ q. rw q (cases (eqb kind 6) (λ q. rw q (step-short (tidyStep s) s))
-      (λ q. rw q (report-short s))))))))))))
+      (λ q. rw q (cases (eqb kind 8) (λ q. rw q (probe-short _))
+      (λ q. rw q (report-short s))))))))))))))
 
   serve-short : (r : Request) → Short (serve s r)
   unfolding serve

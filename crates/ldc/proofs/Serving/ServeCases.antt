@@ -1,5 +1,5 @@
 -- Serving, by cases: what holds of each kind of answer holds of every one. Each case knows the kind and the body's length.
-use Prim.Native.Nat.{_+_, _≤_}
+use Prim.Native.Nat.{ℕ, _+_, _≤_}
 use mathlib.Core.Path.{_≡_}
 use mathlib.Core.Bool.{true, false, cond, _&&_}
 use mathlib.Core.Option.{some, none}
@@ -13,6 +13,7 @@ use Rattle.ldc.specs.Request.{Request, Served, known, bodyGood, keyIn, h
 use Rattle.ldc.specs.Memtable.{servePut}
 use Rattle.ldc.specs.Place.{serveFlush}
 use Rattle.ldc.specs.Read.{serveLookUp, serveScan, serveReport}
+use Rattle.ldc.specs.Probe.{serveProbe}
 use Rattle.ldc.specs.Steps.{serveTidy}
 use Rattle.ldc.specs.Serve.{serveKind, serve}
 use Rattle.ldc.proofs.Basics.Cases.{cases, both-left, both-right}
@@ -27,24 +28,44 @@ pub record Ways (s : Store) (r : Request) (P : Served → Type 0) : Type 0 where
   pub scan : r .kind ≡ 4 → length (r .body) ≡ 16 → P (serveScan s (keyIn (r .body)) (highIn (r .body)))
   pub flush : r .kind ≡ 5 → length (r .body) ≡ 0 → P (serveFlush s)
   pub tidy : r .kind ≡ 6 → length (r .body) ≡ 0 → P (serveTidy s)
+  pub probe : r .kind ≡ 8 → length (r .body) ≡ 8 → P (serveProbe s (keyIn (r .body)))
   pub report : r .kind ≡ 7 → length (r .body) ≡ 0 → P (serveReport s)
 
+-- Of kinds 1 to 8 the one that is no other than 7.
+past-four : (n : ℕ) → 1 ≤ n → (n ≡ 1 → ⊥) → (n ≡ 2 → ⊥) → (n ≡ 3 → ⊥) → (n ≡ 4 → ⊥) → 5 ≤ n
+past-four n lo a b c d = omega arith
+
+seventh : (n : ℕ) → 5 ≤ n → n ≤ 8 → (n ≡ 5 → ⊥) → (n ≡ 6 → ⊥) → (n ≡ 8 → ⊥) → n ≡ 7
+seventh n lo hi a b c = omega arith
+
 module _ (s : Store) (r : Request) (P : Served → Type 0) (w : Ways s r P) (k : known (r .kind) ≡ true) (b : bodyGood (r .kind) (length (r .body)) ≡ true) where
-  -- from kind 5 on no body
-  last : eqb (r .kind) 1 ≡ false → eqb (r .kind) 2 ≡ false → eqb (r .kind) 3 ≡ false → eqb (r .kind) 4 ≡ false
+  -- kinds 5 to 7 have no body
+  last : eqb (r .kind) 1 ≡ false → eqb (r .kind) 2 ≡ false → eqb (r .kind) 3 ≡ false → eqb (r .kind) 4 ≡ false → eqb (r .kind) 8 ≡ false
       → P (cond (eqb (r .kind) 5) (serveFlush s) (cond (eqb (r .kind) 6) (serveTidy s) (serveReport s)))
   unfolding bodyGood known
-  last n1 n2 n3 n4 =
-      let z : length (r .body) ≡ 0 = eqb-true (length (r .body)) 0 (rw (n1, n2, n3, n4) at b) in
+  last n1 n2 n3 n4 n8 =
+      let z : length (r .body) ≡ 0 = eqb-true (length (r .body)) 0 (rw (n1, n2, n3, n4, n8) at b) in
       cases (eqb (r .kind) 5)
       (λ q. rw q (w .flush (eqb-true (r .kind) 5 q) z))
       (λ q. cases (eqb (r .kind) 6)
       (λ t. rw (q, t) (w .tidy (eqb-true (r .kind) 6 t) z))
       (λ t. rw (q, t) (w .report
-      (let lo = leb-true 1 (r .kind) (both-left (leb 1 (r .kind)) (leb (r .kind) 7) k) in
-      let hi = leb-true (r .kind) 7 (both-right (leb 1 (r .kind)) (leb (r .kind) 7) k) in
-      let d1 = eqb-false (r .kind) 1 n1 in let d2 = eqb-false (r .kind) 2 n2 in let d3 = eqb-false (r .kind) 3 n3 in
-      let d4 = eqb-false (r .kind) 4 n4 in let d5 = eqb-false (r .kind) 5 q in let d6 = eqb-false (r .kind) 6 t in omega arith) z)))
+      (seventh (r .kind)
+      (past-four (r .kind) (leb-true 1 (r .kind) (both-left (leb 1 (r .kind)) (leb (r .kind) 8) k))
+      (eqb-false (r .kind) 1 n1) (eqb-false (r .kind) 2 n2) (eqb-false (r .kind) 3 n3) (eqb-false (r .kind) 4 n4))
+      (leb-true (r .kind) 8 (both-right (leb 1 (r .kind)) (leb (r .kind) 8) k))
+      (eqb-false (r .kind) 5 q) (eqb-false (r .kind) 6 t) (eqb-false (r .kind) 8 n8)) z)))
+
+  -- kind 8 is no other
+  probe-way : eqb (r .kind) 1 ≡ false → eqb (r .kind) 2 ≡ false → eqb (r .kind) 3 ≡ false → eqb (r .kind) 8 ≡ true
+      → P (cond (eqb (r .kind) 5) (serveFlush s) (cond (eqb (r .kind) 6) (serveTidy s) (cond (eqb (r .kind) 8) (serveProbe s (keyIn (r .body))) (serveReport s))))
+  unfolding bodyGood
+  probe-way n1 n2 n3 q =
+      let e : r .kind ≡ 8 = eqb-true (r .kind) 8 q in
+      let n5 : eqb (r .kind) 5 ≡ false = rw e in
+      let n6 : eqb (r .kind) 6 ≡ false = rw e in
+      let n : length (r .body) ≡ 8 = eqb-true (length (r .body)) 8 (rw (n1, n2, n3, q) at b) in
+      rw (n5, n6, q) (w .probe e n)
 
   by-kind : P (serveKind s (r .kind) (r .body))
   unfolding serveKind bodyGood
@@ -59,8 +80,11 @@ module _ (s : Store) (r : Request) (P : Served → Type 0) (w : Ways s r P) (k :
       (λ n2. cases (eqb (r .kind) 3)
       (λ q. rw (n1, n2, q) (w .look (eqb-true (r .kind) 3 q) (eqb-true (length (r .body)) 8 (rw (n1, n2, q) at b))))
       (λ n3. cases (eqb (r .kind) 4)
-      (λ q. rw (n1, n2, n3, q) (w .scan (eqb-true (r .kind) 4 q) (eqb-true (length (r .body)) 16 (rw (n1, n2, n3, q) at b))))
-      (λ n4. rw (n1, n2, n3, n4) (last n1 n2 n3 n4)))))
+      (λ q. let e : r .kind ≡ 4 = eqb-true (r .kind) 4 q in
+      let n8 : eqb (r .kind) 8 ≡ false = rw e in
+      rw (n1, n2, n3, q) (w .scan e (eqb-true (length (r .body)) 16 (rw (n1, n2, n3, n8, q) at b))))
+      (λ n4. rw (n1, n2, n3, n4)
+      (cases (eqb (r .kind) 8) (probe-way n1 n2 n3) (λ n8. rw n8 (last n1 n2 n3 n4 n8)))))))
 
 pub serve-cases : (s : Store) (r : Request) (P : Served → Type 0) → Ways s r P → P (serve s r)
 unfolding serve

@@ -14,6 +14,7 @@ use Rattle.ldc.specs.Request.{Request, keyIn, highIn, valueIn}
 use Rattle.ldc.specs.Memtable.{servePut}
 use Rattle.ldc.specs.Place.{written, flushed, freePlaces, serveFlush}
 use Rattle.ldc.specs.Read.{lookUp, serveLookUp, serveScan, serveReport}
+use Rattle.ldc.specs.Probe.{serveProbe}
 use Rattle.ldc.specs.Tidy.{Step, idle, refused, moved, linked, merged, tidyStep}
 use Rattle.ldc.specs.Steps.{leaves, doMove, stepServed, serveTidy}
 use Rattle.ldc.specs.Serve.{serve}
@@ -59,6 +60,7 @@ module _ (s : Store) (S : Sound s) where
     scan = λ k n. unfold serveScan in cases (ltb (highIn (r .body)) (keyIn (r .body))) (λ q. rw q) (λ q. rw q);
     flush = λ k n. flush-threshold;
     tidy = λ k n. tidy-threshold;
+    probe = λ k n. unfold serveProbe in refl;
     report = λ k n. unfold serveReport in refl;
   })
 

@@ -38,7 +38,7 @@ module _ (s : Store) (n : ℕ) where
       rw (getD-drop (suc n) (s .levels) j []) at (none-part (λ p. spanHolds s p k) (drop (suc n) (s .levels)) j h)
 
 -- A key that a table's span does not hold is not read of it,
-outside : (s : Store) (p k : ℕ) → spanHolds s p k ≡ false → (k < spanStart s p) ⊎ (spanEnd s p < k)
+pub outside : (s : Store) (p k : ℕ) → spanHolds s p k ≡ false → (k < spanStart s p) ⊎ (spanEnd s p < k)
 unfolding spanHolds
 outside s p k h =
     cases (leb (spanStart s p) k)

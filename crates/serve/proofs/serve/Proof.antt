@@ -1,6 +1,6 @@
 -- `serve` meets its contract: kind by kind, what was called leaves what the definition serves. Where only the answer or the memory table
 -- changed, kept memory is what is lent of the store that it shows.
-use Prim.Native.Nat.{ℕ}
+use Prim.Native.Nat.{ℕ, _≤_}
 use mathlib.Core.Path.{_≡_, refl, sym, _∙_, ap}
 use mathlib.Core.Bool.{true, false}
 use mathlib.Core.Logic.{⊎-elim}
@@ -12,14 +12,15 @@ use Rattle.table.specs.Entry.{entryOf}
 use Rattle.ldc.specs.Lent.{storeOf, lentOf}
 use Rattle.ldc.specs.Request.{known, keyIn, highIn, valueIn}
 use Rattle.ldc.specs.Read.{serveLookUp, serveScan, serveReport}
+use Rattle.ldc.specs.Probe.{serveProbe}
 use Rattle.ldc.proofs.Lent.Rules.{unbroken}
 use Rattle.book.specs.Head.{headWords}
 use Rattle.book.specs.Pieces.{lent}
 use Rattle.book_edit.proofs.Keeping.{shape-of, lent-kept}
-use Rattle.serve.proofs.ByKind.{good, unknown-0, unknown-above, serve-unknown, serve-misfit, serve-3, serve-4, serve-5, serve-6, serve-7, serve-put, length-3, length-4, form-put, after-other, after-misfit, after-tidy, known-six}
+use Rattle.serve.proofs.ByKind.{good, unknown-0, unknown-above, serve-unknown, serve-misfit, serve-3, serve-4, serve-5, serve-6, serve-7, serve-8, serve-put, length-3, length-4, length-8, form-put, after-other, after-misfit, after-tidy, known-six}
 use Rattle.serve_write.proofs.Turns.{turned-by}
 use Rattle.serve_read.proofs.Counted.{report-served}
-use Rattle.serve.proofs.Unmoved.{scan-store, look-up-store, report-store, counts-kept, turn-read, turn-refused, turn-put}
+use Rattle.serve.proofs.Unmoved.{scan-store, look-up-store, probe-store, report-store, counts-kept, turn-read, turn-refused, turn-put}
 use Rattle.serve.proofs.serve.Statement.{statement}
 use Rattle.serve.proofs.serve.Tie as tie
 
@@ -101,12 +102,22 @@ report-reply-requires c κs =
     let b = c .before .before .before .before .before .before .before .before .before .before .before in
     (counts-kept _ (b .pre .0 .kept) (b .pre .0 .memory), b .pre .1 .0)
 
+key-at-requires-4 : tie.Need-key-at-requires-4
+key-at-requires-4 c κs =
+    let a = c .before .before .before .before .before .before .before .before .args in
+    omega (arith, length-8 (a .kind) (a .body .now) (c .match .keys6) (fit (c .before)))
+
+probe-reply-requires : tie.Need-probe-reply-requires
+probe-reply-requires c κs =
+    let p = c .before .before .before .before .before .before .before .before .before .before .before .before .before .before .pre in
+    (record { memory = p .0 .memory; kept = p .0 .kept }, p .1 .0)
+
 put-requires : tie.Need-put-requires
 put-requires c κs =
     let t = c .before .before in
     let i = t .before .before in
     let b = i .before .before .before .before .before .before .before in
-    let f = form-put (b .args .kind) (b .args .body .now) (omega (arith, t .before .match .rest, t .if2 .taken)) (omega (arith, t .if2 .taken)) (fit i) in
+    let f = form-put (b .args .kind) (b .args .body .now) (omega (arith, t .before .match .rest .1)) (omega (arith, t .if2 .taken)) (fit i) in
     (b .pre .0 .memory, (unbroken _ (b .pre .0 .kept .unbroken) .memory, (f .0, (f .1, b .pre .1 .0))))
 
 answer-bare-requires-2 : tie.Need-answer-bare-requires-2
@@ -268,8 +279,40 @@ same-length-25 c = search needs
 same-length-26 : tie.Need-same-length-26
 same-length-26 c = search needs
 
+same-length-27 : tie.Need-same-length-27
+same-length-27 c = search needs
+
+same-length-28 : tie.Need-same-length-28
+same-length-28 c = search needs
+
+same-length-29 : tie.Need-same-length-29
+same-length-29 c = search needs
+
 returns-7 : tie.Need-returns-7
+unfolding keyIn
 returns-7 c =
+    let r = c .before .before in
+    let y = r .before .before .before .before .before .before in
+    let x = y .before in
+    let i = x .before in
+    let g = i .before in
+    let k = g .before in
+    let a = k .before .before .before .before .before .args in
+    let m = lent (a .area .now) (a .cards .now) (a .lists .now) (headWords (a .head)) (a .memory .now) in
+    let s = storeOf m in (
+      turn-read m (held k) 8 (serveProbe s (y .key-at4 .result .value)) (a .answer .now) _ (a .at) _ (probe-store s _) (r .probe-reply .ensures)
+          ∙ turned-by m (a .kind) (a .body .now) (a .answer .now) (a .at) (sym (x .match .keys6)) (ap (serveProbe s) (y .key-at4 .ensures) ∙ sym (serve-8 s (a .kind) (a .body .now) (x .match .keys6) (fit i))),
+      after-other (a .suspect) s (a .kind) (a .body .now) (λ e. omega (arith, x .match .keys6)),
+    )
+
+same-length-30 : tie.Need-same-length-30
+same-length-30 c = search needs
+
+same-length-31 : tie.Need-same-length-31
+same-length-31 c = search needs
+
+returns-8 : tie.Need-returns-8
+returns-8 c =
     let r = c .before .before .before .before in
     let t = r .before .before .before in
     let i = t .before .before in
@@ -279,15 +322,15 @@ returns-7 c =
     let m = lent (a .area .now) (a .cards .now) (a .lists .now) (headWords (a .head)) (a .memory .now) in
     let s = storeOf m in (
       turn-put m (held k) (a .kind) (entryOf (a .kind) (keyIn (a .body .now)) (valueIn (a .body .now))) _ (a .answer .now) _ (a .at) _ (r .put .ensures .0) (r .put .ensures .1)
-          ∙ turned-by m (a .kind) (a .body .now) (a .answer .now) (a .at) refl (sym (serve-put s (a .kind) (a .body .now) (omega (arith, t .before .match .rest, t .if2 .taken)) (omega (arith, t .if2 .taken)) (fit i))),
+          ∙ turned-by m (a .kind) (a .body .now) (a .answer .now) (a .at) refl (sym (serve-put s (a .kind) (a .body .now) (omega (arith, t .before .match .rest .1)) (omega (arith, t .if2 .taken)) (fit i))),
       after-other (a .suspect) s (a .kind) (a .body .now) (λ e. omega (arith, t .if2 .taken)),
     )
 
-same-length-27 : tie.Need-same-length-27
-same-length-27 c = search needs
+same-length-32 : tie.Need-same-length-32
+same-length-32 c = search needs
 
-returns-8 : tie.Need-returns-8
-returns-8 c =
+returns-9 : tie.Need-returns-9
+returns-9 c =
     let r = c .before .before in
     let x = r .before .before in
     let i = x .before in
@@ -296,7 +339,10 @@ returns-8 c =
     let a = k .before .before .before .before .before .args in
     let m = lent (a .area .now) (a .cards .now) (a .lists .now) (headWords (a .head)) (a .memory .now) in
     let s = storeOf m in
-    let off : known (a .kind) ≡ false = ⊎-elim (λ w. rw (w .keys6) unknown-0) (λ w. unknown-above (a .kind) (omega (arith, w .0 .rest, w .1 .left))) (x .match .came) in (
+    let off : known (a .kind) ≡ false = ⊎-elim (λ w. rw (w .keys7) unknown-0)
+    (λ w. let n = w .0 .rest .0 in
+    let six : 6 ≤ a .kind = omega (arith, w .1 .left, n .0 .0 .0 .0 .0 .1, n .0 .0 .0 .0 .1, n .0 .0 .0 .1) in
+    unknown-above (a .kind) (omega (six, n .0 .0 .1, n .0 .1, n .1, arith))) (x .match .came) in (
       turn-refused m (held k) (a .kind) 16 (a .answer .now) _ (a .at) _ (r .answer-bare2 .ensures)
           ∙ turned-by m (a .kind) (a .body .now) (a .answer .now) (a .at) refl (sym (serve-unknown s (a .kind) (a .body .now) off)),
       after-other (a .suspect) s (a .kind) (a .body .now) (λ e. known-six (a .kind) e off),
@@ -318,6 +364,8 @@ serve-spec =
     flush-reply-requires
     tidy-reply-requires
     report-reply-requires
+    key-at-requires-4
+    probe-reply-requires
     put-requires
     answer-bare-requires-2
     same-length-2
@@ -350,6 +398,12 @@ serve-spec =
     returns-6
     same-length-25
     same-length-26
-    returns-7
     same-length-27
-    returns-8)
+    same-length-28
+    same-length-29
+    returns-7
+    same-length-30
+    same-length-31
+    returns-8
+    same-length-32
+    returns-9)

@@ -6,7 +6,9 @@ use lib.ListN.{length, drop, length-set, length-map, drop-of-length-le}
 use lib.Seq.{sets}
 use Rattle.coding.proofs.Sets.{sets-all}
 use Rattle.ldc.specs.Store.{free}
-use Rattle.ldc.specs.Layout.{rowOf}
+use Rattle.table.specs.Table.{zeros}
+use Rattle.summary.specs.Summary.{summaryWords}
+use Rattle.ldc.specs.Layout.{rowWith}
 use Rattle.book.specs.Made.{allFree}
 use Rattle.book.proofs.Made.{free-all-turn}
 use native.Mathlib.Omega.{arith}
@@ -23,10 +25,10 @@ loop-holds : tie.Need-loop-holds Inv-loop μ-loop
 unfolding allFree
 loop-holds c =
     let rows = c .args .cards .now in
-    (refl, sym (sets-all rows (allFree rows) (length-map rows (λ _. rowOf free))))
+    (refl, sym (sets-all rows (allFree rows) (length-map rows (λ _. rowWith free (zeros summaryWords)))))
 
-set-state-requires : tie.Need-set-state-requires Inv-loop μ-loop
-set-state-requires c κs = omega arith
+free-requires : tie.Need-free-requires Inv-loop μ-loop
+free-requires c κs = omega arith
 
 add-i : tie.Need-add-i Inv-loop μ-loop
 add-i c = omega arith
@@ -37,7 +39,7 @@ loop-less c = omega arith
 loop-again : tie.Need-loop-again Inv-loop μ-loop
 loop-again c =
     let l = c .before .before .before .before .loop in
-    let e = c .before .set-state .ensures in
+    let e = c .before .free .ensures in
     (rw e (simp length-set (l .inv .0)), rw e (l .inv .1 ∙ free-all-turn (l .cards) (l .i) (omega arith)))
 
 same-length : tie.Need-same-length Inv-loop μ-loop
@@ -58,7 +60,7 @@ free-all-spec =
     Inv-loop
     μ-loop
     loop-holds
-    set-state-requires
+    free-requires
     add-i
     loop-less
     loop-again

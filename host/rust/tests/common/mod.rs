@@ -1,4 +1,4 @@
-//! A small seeded generator of numbers, and two stores with a link.
+//! A small seeded generator of numbers, two stores with a link, and numbers as pages print them.
 #![allow(dead_code)]
 
 use zilgwern::{Memory, Step, Stepped, Store};
@@ -45,4 +45,12 @@ pub fn printed() -> Memory {
         assert_eq!(store.tidy(), Ok(Some(Stepped { step, level: 0 })));
     }
     memory
+}
+
+/// A number with commas between thousands.
+pub fn written(number: usize) -> String {
+    match number {
+        0..1000 => number.to_string(),
+        _ => format!("{},{:03}", written(number / 1000), number % 1000),
+    }
 }

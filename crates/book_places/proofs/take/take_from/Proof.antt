@@ -34,11 +34,11 @@ found : (c : tie.After-p)
     freeAt (length (a .cards .now)) (a .cards .now) (a .cursor) ≡ At (c .p .given .0 .0)
 found c = sym (c .before .before .first-free .ensures) ∙ c .p .given .1
 
-set-state-requires : tie.Need-set-state-requires
-set-state-requires c κs =
+make-live-requires : tie.Need-make-live-requires
+make-live-requires c κs =
     let p = c .before .before in
     let b = p .before .before .before .before in
-    (found-free (b .args .cards .now) (length (b .args .cards .now)) (b .args .cursor) _ (b .pre .0) (found p) .0, omega arith)
+    found-free (b .args .cards .now) (length (b .args .cards .now)) (b .args .cursor) _ (b .pre .0) (found p) .0
 
 next-requires : tie.Need-next-requires
 next-requires c κs =
@@ -53,7 +53,7 @@ returns-2 : tie.Need-returns-2
 returns-2 c =
     let p = c .before .before .before .before .before in
     let b = p .before .before .before .before in
-    (found p, (c .before .before .set-state .ensures, rw (c .next .ensures, c .before .before .set-state .ensures, length-set)))
+    (found p, (c .before .before .make-live .ensures, rw (c .next .ensures, c .before .before .make-live .ensures, length-set)))
 
 pub take-from-spec : {M : Type 1} → statement M
 take-from-spec =
@@ -64,7 +64,7 @@ take-from-spec =
     enum-told
     same-length
     returns
-    set-state-requires
+    make-live-requires
     next-requires
     same-length-2
     returns-2)

@@ -43,7 +43,9 @@ use denote.Triple.Walked.{says, needs, Stays, gave-slice, stay-ref, walkOf, goes
 use denote.Signature.{plain}
 use Rattle.ldc.specs.Store.{live}
 use Rattle.ldc.specs.Place.{nextPlace}
-use Rattle.ldc.specs.Layout.{rowOf}
+use Rattle.ldc.specs.Layout.{rowWith}
+use Rattle.table.specs.Table.{zeros}
+use Rattle.summary.specs.Summary.{summaryWords}
 use Rattle.walks.proofs.Pieces.{Row, RowS}
 use Rattle.book.specs.Place.{freeAt, freeRows}
 use Rattle.book.specs.declared.index.Index.the-variants.{At}
@@ -98,7 +100,7 @@ module _ {M : Type 1} (𝓤 : URA M) (H : Heap 𝓤) (A : Atoms 𝓤) (W : Given
   Asked = (h .cursor < length ys) × (1 ≤ freeRows ys)
 
   abbrev Said : Step → List (List ℕ) → Type 0
-  Said r zs = (freeAt (length ys) ys (h .cursor) ≡ At (r .place)) × ((zs ≡ set ys (r .place) (rowOf (live []))) × (r .cursor ≡ nextPlace (length ys) (r .place)))
+  Said r zs = (freeAt (length ys) ys (h .cursor) ≡ At (r .place)) × ((zs ≡ set ys (r .place) (rowWith (live []) (zeros summaryWords))) × (r .cursor ≡ nextPlace (length ys) (r .place)))
 
   abbrev to-take-from : TakeFrom 𝓤 H A at-mem run .Ghost
   to-take-from = (((κ, tt), (q, tt), tt, (x, (h .cursor, tt)), (s ∷ [], (vint w64 (h .cursor) ∷ [], tt))), tt)

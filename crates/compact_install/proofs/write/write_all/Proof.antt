@@ -7,19 +7,19 @@ use native.Mathlib.Omega.{arith}
 use borrow.Author.Needs.{needs}
 use lib.ListN.{length, take}
 use lib.Seq.{sets, length-sets, length-take-le}
-use Rattle.coding.proofs.Sets.{length-part}
 use Rattle.table.specs.Limits.{placeSize}
 use Rattle.table.specs.Entry.{Entry}
 use Rattle.table.specs.Table.{placeOf}
-use Rattle.ldc.specs.Layout.{mostPlaces}
+use Rattle.ldc.specs.Layout.{mostPlaces, tableSummary}
 use Rattle.ldc.specs.Store.{Store}
 use Rattle.ldc.specs.Place.{placesTaken, freePlaces}
 use Rattle.book.specs.Head.{headWords}
 use Rattle.book.specs.Pieces.{lent}
 use Rattle.book_edit.specs.Shown.{Fits, Shows}
+use Rattle.book_edit.specs.Take.{Takes}
 use Rattle.compact_merge.specs.Merge.{mergeTables}
 use Rattle.compact_install.specs.Tables.{Tables, Placing}
-use Rattle.compact_install.proofs.Many.{Sofar, sofar-none, sofar-ready, sofar-place, sofar-more, tables-within}
+use Rattle.compact_install.proofs.Many.{Sofar, sofar-none, sofar-ready, sofar-table, sofar-place, sofar-more, tables-within}
 use Rattle.compact_install.proofs.Placed.{placed-listing, placed-on, placed-room, placed-done}
 use Rattle.compact_install.proofs.write.write_all.Statement.{statement}
 use Rattle.compact_install.proofs.write.write_all.Tie as tie
@@ -93,7 +93,9 @@ write-table-requires c κs =
     let e : l .i * placeSize + placeSize - l .i * placeSize ≡ placeSize = omega arith in
     let r = sofar-ready (l .area) (l .cards) (headWords (l .noted)) none (l .taken) (a .out .now) (a .k) (l .i) (b .pre .store) (b .pre .tables)
     (b .pre .placing .told) (i .loop-test .taken) (sofar i) in
-    (r .0, (rw e (length-part (a .out .now) (l .i * placeSize) placeSize (within i)), r .1))
+    let t = sofar-table (l .area) (l .cards) (headWords (l .noted)) none (l .taken) (a .out .now) (a .k) (l .i) (b .pre .store) (b .pre .tables)
+    (b .pre .placing .told) (i .loop-test .taken) (sofar i) in
+    (r .0, (rw e t, r .1))
 
 -- What was written is the i-th table.
 copied : (c : tie.After-write-table Inv-loop μ-loop)
@@ -105,6 +107,16 @@ copied c =
     let e : l .i * placeSize + placeSize - l .i * placeSize ≡ placeSize = omega arith in
     rw e at (c .write-table .ensures .1)
 
+-- And so is the summary on its card.
+taken : (c : tie.After-write-table Inv-loop μ-loop)
+    → let l = c .before .before .before .before .before .loop in
+    Takes (l .cards) (headWords (l .noted)) (c .write-table .last .1 .0) (headWords (c .write-table .result .head)) (c .write-table .result .place)
+    (tableSummary (placeOf (c .before .before .before .before .before .before .before .before .before .args .out .now) (l .i)))
+taken c =
+    let l = c .before .before .before .before .before .loop in
+    let e : l .i * placeSize + placeSize - l .i * placeSize ≡ placeSize = omega arith in
+    rw e at (c .write-table .ensures .0)
+
 below : (c : tie.After-write-table Inv-loop μ-loop) → c .write-table .result .place < mostPlaces
 below c =
     let i = c .before .before .before .before in
@@ -114,7 +126,7 @@ below c =
     sofar-place (l .area) (l .cards) (headWords (l .noted)) none (l .taken) (a .out .now) (a .k) (l .i) (b .pre .store) (b .pre .tables)
     (b .pre .placing .told) (i .loop-test .taken) (sofar i)
     (c .write-table .last .0) (c .write-table .last .1 .0) (headWords (c .write-table .result .head)) (c .write-table .result .place)
-    (c .write-table .ensures .0) (copied c)
+    (taken c) (copied c)
 
 cast-place : tie.Need-cast-place Inv-loop μ-loop
 cast-place c = omega (arith, below (c .before .before .before .before))
@@ -162,7 +174,7 @@ loop-again c =
               sofar-more (l .area) (l .cards) (headWords (l .noted)) none (l .taken) (a .out .now) (a .k) (l .i) s ts
               h (i .loop-test .taken) (l .inv .1 .1 .1 s ts f sh h r)
               (w .write-table .last .0) (w .write-table .last .1 .0) (headWords (w .write-table .result .head)) (w .write-table .result .place)
-              (w .write-table .ensures .0) (copied w),
+              (taken w) (copied w),
         ),
       ),
     )

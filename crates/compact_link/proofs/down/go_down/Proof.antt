@@ -168,7 +168,7 @@ lent-items c =
 link-requires : tie.Need-link-requires
 link-requires c κs =
     let r = c .before .before .before .before .before .before .before .before .before .pre .ready in
-    rw (lent-items c) (record { hosts = ready.ready-below _ _ _ r; tabled = ready.ready-tabled _ _ _ r; apart = ready.ready-apart _ _ _ r })
+    rw (lent-items c) (record { hosts = ready.ready-below _ _ _ r; tabled = ready.ready-tabled _ _ _ r; bare = ready.ready-bare _ _ _ r; apart = ready.ready-apart _ _ _ r })
 
 slice-aggregate-replace-2 : tie.Need-slice-aggregate-replace-2
 slice-aggregate-replace-2 c = search needs

@@ -5,7 +5,7 @@ use native.Mathlib.Omega.{arith}
 use borrow.Author.Needs.{needs}
 use lib.ListN.{length}
 use Rattle.ldc.specs.Store.{live}
-use Rattle.ldc.proofs.Lent.Parts.{count-rowOf}
+use Rattle.ldc.proofs.Lent.Parts.{count-rowWith}
 use Rattle.book.specs.Rows.{shownBy}
 use Rattle.read.proofs.Shows.{carded}
 use Rattle.compact_link.specs.Range.{sliceAt, hungRow}
@@ -54,7 +54,7 @@ add-link-requires c κs =
     let a = b .args in
     let i = k .keeper-of .result in
     let row = b .pre .0 .roomy i (few k) in
-    (carded (a .area .now) (a .cards .now) (b .pre .0 .legible) _ (b .pre .0 .rising .listed i (few k)), rw (row .shown, count-rowOf (live (row .held))) (row .room))
+    (carded (a .area .now) (a .cards .now) (b .pre .0 .legible) _ (b .pre .0 .rising .listed i (few k)), rw (row .shown, count-rowWith (live (row .held)) (row .summary)) (row .room))
 
 same-length : tie.Need-same-length
 same-length c = search needs

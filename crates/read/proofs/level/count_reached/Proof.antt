@@ -1,6 +1,5 @@
 -- `count_reached` meets its contract. The loop's invariant: the rank is from `low - 1` to `high`, since tables with a least key of at most the key
--- stand in front, but for the last of them, whose span may reach the key; and the table at `high` has a
--- greater least key.
+-- stand in front, but for the last of them, whose span may reach the key.
 use Prim.Native.Nat.{_+_, _-_, _/_, _≤_, _<_}
 use mathlib.Core.Path.{_≡_, sym, _∙_}
 use native.Mathlib.Omega.{arith}
@@ -21,7 +20,6 @@ use Rattle.read.proofs.level.count_reached.Tie as tie
 abbrev Inv-loop : tie.InvT-loop
 Inv-loop area cards items key low₀ high₀ low high =
     (low ≤ high) × (high ≤ length items) × (low ≤ rank (shownBy area cards) (key .value) items + 1) × (rank (shownBy area cards) (key .value) items ≤ high)
-    × (high < length items → key .value < leastKey (entries (placeOf area (getD items high 0))))
 
 abbrev μ-loop : tie.MeasureT-loop
 μ-loop area cards items key low₀ high₀ low high = high - low
@@ -29,7 +27,7 @@ abbrev μ-loop : tie.MeasureT-loop
 loop-holds : tie.Need-loop-holds Inv-loop μ-loop
 loop-holds c =
     let a = c .before .before .args in
-    (omega arith, omega arith, omega arith, rank-few (shownBy (a .area .now) (a .cards .now)) (a .key .value) (a .items .now), λ h. absurd (omega arith))
+    (omega arith, omega arith, omega arith, rank-few (shownBy (a .area .now) (a .cards .now)) (a .key .value) (a .items .now))
 
 sub-mid : tie.Need-sub-mid Inv-loop μ-loop
 sub-mid c = omega arith
@@ -87,7 +85,7 @@ loop-again c =
     let mid = l .low + (l .high - l .low) / 2 in
     let lt : a .key .value < leastKey (entries (placeOf (a .area .now) (getD (a .items .now) mid 0))) = ltb-true _ _ (sym (tested (c .before)) ∙ c .if1 .taken) in
     let r = rank-below (shownBy (a .area .now) (a .cards .now)) (a .key .value) (a .items .now) mid (omega arith) (omega (arith, lt, spanned (c .before) .1)) in
-    (omega arith, omega arith, l .inv .2, r, λ _. lt)
+    (omega arith, omega arith, l .inv .2, r)
 
 add-low : tie.Need-add-low Inv-loop μ-loop
 add-low c = omega (arith, c .before .before .before .before .before .before .before .before .good)
@@ -106,13 +104,13 @@ loop-again-2 c =
     let le : leastKey (entries (placeOf (a .area .now) (getD (a .items .now) mid 0))) ≤ a .key .value = ltb-false _ _ (sym (tested (c .before)) ∙ c .if1 .left) in
     let r = rank-start s 0 (a .key .value) (a .items .now) mid (spans (a .area .now) (a .cards .now) (a .items .now) bytes (b .pre .0) (b .pre .1)) (omega arith)
     (omega (arith, le, spanned (c .before) .0)) in
-    (omega arith, l .inv .1, omega (arith, r), l .inv .3, l .inv .4)
+    (omega arith, l .inv .1, omega (arith, r), l .inv .3)
 
 returns : tie.Need-returns Inv-loop μ-loop
 returns c =
     let l = c .before .loop in
     let e : l .low ≡ l .high = omega (arith, l .inv .0, c .loop-test .left) in
-    (omega arith, (omega arith, (omega arith, rw e (l .inv .4))))
+    (omega arith, (omega arith, omega arith))
 
 pub count-reached-spec : {M : Type 1} → statement M
 count-reached-spec =

@@ -3,8 +3,10 @@ use Prim.Native.Nat.{_-_, _≤_}
 use mathlib.Core.Path.{_≡_, refl, sym, _∙_}
 use lib.ListN.{length, replicate, length-set}
 use lib.Seq.{sets}
+use Rattle.table.specs.Table.{zeros}
+use Rattle.summary.specs.Summary.{summaryWords}
 use Rattle.ldc.specs.Store.{free}
-use Rattle.ldc.specs.Layout.{rowOf}
+use Rattle.ldc.specs.Layout.{rowWith}
 use Rattle.saved_read.proofs.Cards.{free-turn, free-done}
 use native.Mathlib.Omega.{arith}
 use Rattle.saved_read.proofs.rows.free_from.Statement.{statement}
@@ -14,7 +16,7 @@ abbrev Inv-loop : tie.InvT-loop
 Inv-loop rows₀ from i₀ rows i =
     (i ≤ length rows₀)
     × (length rows ≡ length rows₀)
-    × (sets rows₀ from (replicate (length rows₀ - from) (rowOf free)) ≡ sets rows i (replicate (length rows₀ - i) (rowOf free)))
+    × (sets rows₀ from (replicate (length rows₀ - from) (rowWith free (zeros summaryWords))) ≡ sets rows i (replicate (length rows₀ - i) (rowWith free (zeros summaryWords))))
 
 abbrev μ-loop : tie.MeasureT-loop
 μ-loop rows₀ from i₀ rows i = length rows₀ - i
@@ -22,8 +24,8 @@ abbrev μ-loop : tie.MeasureT-loop
 loop-holds : tie.Need-loop-holds Inv-loop μ-loop
 loop-holds c = (omega arith, refl, refl)
 
-set-state-requires : tie.Need-set-state-requires Inv-loop μ-loop
-set-state-requires c κs = omega arith
+free-requires : tie.Need-free-requires Inv-loop μ-loop
+free-requires c κs = omega arith
 
 add-i : tie.Need-add-i Inv-loop μ-loop
 add-i c = omega arith
@@ -35,8 +37,8 @@ loop-again : tie.Need-loop-again Inv-loop μ-loop
 loop-again c =
     let l = c .before .before .before .before .loop in
     let n = length (c .before .before .before .before .before .args .rows .now) in
-    let e = c .before .set-state .ensures in
-    (omega arith, rw e (simp length-set (l .inv .1)), rw e (l .inv .2 ∙ free-turn (l .rows) (rowOf free) n (l .i) (omega arith)))
+    let e = c .before .free .ensures in
+    (omega arith, rw e (simp length-set (l .inv .1)), rw e (l .inv .2 ∙ free-turn (l .rows) (rowWith free (zeros summaryWords)) n (l .i) (omega arith)))
 
 same-length : tie.Need-same-length Inv-loop μ-loop
 same-length c = c .before .loop .inv .1
@@ -45,7 +47,7 @@ returns : tie.Need-returns Inv-loop μ-loop
 returns c =
     let l = c .before .loop in
     let n = length (c .before .before .args .rows .now) in
-    sym (l .inv .2 ∙ free-done (l .rows) (rowOf free) n (l .i) (omega arith))
+    sym (l .inv .2 ∙ free-done (l .rows) (rowWith free (zeros summaryWords)) n (l .i) (omega arith))
 
 pub free-from-spec : {M : Type 1} → statement M
 free-from-spec =
@@ -54,7 +56,7 @@ free-from-spec =
     Inv-loop
     μ-loop
     loop-holds
-    set-state-requires
+    free-requires
     add-i
     loop-less
     loop-again

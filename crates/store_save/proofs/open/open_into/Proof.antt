@@ -1,4 +1,5 @@
--- `open_into` meets its contract, by its ways out: wrong sizes, no book, fewer places, or read piece by piece and judged by the check.
+-- `open_into` meets its contract, by its ways out: wrong sizes, no book, fewer places, or read piece by piece, the summaries
+-- worked out, and judged by the check.
 use mathlib.Core.Path.{_≡_, refl, sym, _∙_}
 use mathlib.Core.Bool.{true}
 use borrow.Author.Needs.{needs}
@@ -6,7 +7,7 @@ use borrow.Author.Tests.{not-true, not-false}
 use Rattle.ldc.specs.Lent.{Lent, sizesGood}
 use Rattle.ldc.proofs.Lent.Shows.{sizes}
 use Rattle.book.specs.Pieces.{lent}
-use Rattle.store_save.proofs.Opens.{into-sizes, into-unformed, Found, found-none, found-parts, fewer, room, judged}
+use Rattle.store_save.proofs.Opens.{into-sizes, into-unformed, Found, found-none, found-parts, fewer, rows-sized, room, judged}
 use Rattle.store_save.proofs.open.open_into.Statement.{statement}
 use Rattle.store_save.proofs.open.open_into.Tie as tie
 
@@ -63,19 +64,27 @@ read-rows-requires c κs =
     let e = k .before .before .before .before .before in
     (parts k .form, room (before (e .before)) _ (good e) _ (parts k) (c .before .if2 .left))
 
+sum-rows-requires : tie.Need-sum-rows-requires
+sum-rows-requires c κs =
+    let r = c .before .before in
+    let i = r .before .before in
+    let k = i .before in
+    let e = k .before .before .before .before .before in
+    rows-sized (before (e .before)) _ (good e) _ (parts k) (i .if2 .left) _ (r .read-rows .kept .1 .0)
+
 read-lists-requires : tie.Need-read-lists-requires
 read-lists-requires c κs =
-    let i = c .before .before .before .before in
+    let i = c .before .before .before .before .before .before .before in
     let k = i .before in
     let e = k .before .before .before .before .before in
     let m = before (e .before) in
     (parts k .form, (parts k .lists, (sizes m (good e) .lists ∙ rw (sizes m (good e) .cards), room m _ (good e) _ (parts k) (i .if2 .left))))
 
 read-head-requires : tie.Need-read-head-requires
-read-head-requires c κs = let k = c .before .before .before .before .before .before .before .before in (parts k .form, parts k .lists)
+read-head-requires c κs = let k = c .before .before .before .before .before .before .before .before .before .before .before in (parts k .form, parts k .lists)
 
 read-memory-requires : tie.Need-read-memory-requires
-read-memory-requires c κs = let k = c .before .before .before .before .before .before .before .before .before .before in (parts k .form, parts k .memory)
+read-memory-requires c κs = let k = c .before .before .before .before .before .before .before .before .before .before .before .before .before in (parts k .form, parts k .memory)
 
 check-requires : tie.Need-check-requires
 check-requires c κs = search needs
@@ -91,13 +100,14 @@ returns-4 c =
     let y = c .before .before .before .before .before in
     let h = y .before .before in
     let l = h .before .before .before in
-    let r = l .before .before .before in
+    let s = l .before .before .before in
+    let r = s .before .before .before in
     let i = r .before .before in
     let k = i .before in
     let e = k .before .before .before .before .before in
     let m = before (e .before) in
-    let o = judged m _ (good e) _ (parts k) (i .if2 .left) _ _ _ _ (r .read-rows .ensures) (l .read-lists .ensures) (h .read-head .ensures) (y .read-memory .ensures)
-    (r .read-rows .kept .1 .0) (l .read-lists .kept .1 .1 .1 .0) _ _ (c .check .ensures) in
+    let o = judged m _ (good e) _ (parts k) (i .if2 .left) _ _ _ _ _ (r .read-rows .ensures) (s .sum-rows .ensures) (l .read-lists .ensures) (h .read-head .ensures) (y .read-memory .ensures)
+    (s .sum-rows .kept .1 .0 ∙ r .read-rows .kept .1 .0) (l .read-lists .kept .1 .1 .1 .0) _ _ (c .check .ensures) in
     (o .number-is, (o .letter-is, o .left-is))
 
 pub open-into-spec : {M : Type 1} → statement M
@@ -112,6 +122,7 @@ open-into-spec =
     returns-2
     returns-3
     read-rows-requires
+    sum-rows-requires
     read-lists-requires
     read-head-requires
     read-memory-requires
