@@ -87,7 +87,9 @@ fn requests_but(without: &[&str]) -> Vec<String> {
 }
 
 /// Small stores have no room for so many tables that level 2 overflows.
-const BEYOND_SMALL: [&str; 12] = [
+const BEYOND_SMALL: [&str; 14] = [
+    met::OF_LEVELS[2][0],
+    met::OF_LEVELS[2][1],
     met::PROBED_ON_3,
     met::PROBED_LINK_3,
     "merge without results on 3",
@@ -147,7 +149,7 @@ fn large_new_stores() {
         .flat_map(|from| [format!("moved from {from}"), format!("linked from {from}")])
         .collect();
     required.extend((1..4).map(|on| format!("due merge on {on}")));
-    required.push("new store with 4096 places".into());
+    required.extend(["new store with 4096 places", met::DEEP].map(String::from));
     complete(&LARGE, 3_000_001, LARGE_REQUESTS, required);
 }
 

@@ -19,10 +19,12 @@ const CHOICE: &str = "ZILGWERN_SURVEY";
 /// Seeds of the long lists: each gives some thirty.
 const SEEDS: std::ops::Range<u64> = 1..5;
 
-/// Not reached: 32 places are too few for a level 2 that gives tables to level 3, and with them for
-/// merges there and what they hold; a merge in place of a choice is too rare for one that finds no
-/// room, and so is a merge that finds room only since delete marks go.
-const UNREACHED: [&str; 15] = [
+/// Not reached: 32 places are too few for a level 2 that comes to its capacity and gives tables to
+/// level 3, and with them for merges there and what they hold; a merge in place of a choice is too
+/// rare for one that finds no room, and so is a merge that finds room only since delete marks go.
+const UNREACHED: [&str; 17] = [
+    met::OF_LEVELS[2][0],
+    met::OF_LEVELS[2][1],
     met::PROBED_ON_3,
     met::PROBED_LINK_3,
     "moved from 2",

@@ -8,6 +8,7 @@ use crate::generate::planted::{planted, planted_with_marks};
 use crate::generate::profile::{Profile, Source, DELETING, PROFILES};
 use crate::generate::random::Random;
 use crate::implementation::Implementation;
+use crate::judge::met;
 use crate::lent::Lent;
 use crate::limits::{ANSWER_ROOM, LIST_BYTES};
 use crate::reached::{required_of_requests, Reached, STOPS, STUCK};
@@ -218,5 +219,6 @@ pub fn required() -> Vec<String> {
     names.extend((1..=STOPS).map(|position| format!("stopped after {position:>2}")));
     names.extend(FEATURES.map(|(name, _)| format!("planted: {name}")));
     names.extend([3, 4].map(|number| format!("run refused with {number}")));
+    names.push(met::DEEP.into());
     names
 }

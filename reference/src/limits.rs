@@ -47,7 +47,9 @@ pub const LIST_BYTES: usize = 65_536;
 /// Room that must be left in the answer buffer before a request is served.
 pub const ANSWER_ROOM: usize = 1024;
 
-/// How many live tables a level holds before tidy takes one away; level 3 has no such limit.
+/// How many live tables a level holds before tidy takes one away: 2 shifted left by twice the level number. Level 3 has no such
+/// limit, and asking for it is a mistake.
 pub fn capacity(level: usize) -> usize {
-    [2, 8, 32][level]
+    assert!(level < LEVELS - 1, "level {level} has no capacity");
+    2 << (2 * level)
 }

@@ -233,4 +233,12 @@ slips! {
     EmptyValueNotFound,
     /// Kind 8 replies 64 where there is no value.
     ProbeSays64,
+
+    // Capacities without a list (note 7).
+    /// 2 is shifted left by the level number and not by twice it: 2, 4, 8.
+    CapacityShiftedOnce,
+    /// Levels are counted from 1 when 2 is shifted: 8, 32, 128.
+    CapacityFromLevelOne,
+    /// Level 3 has a capacity like the others, 128; above it it is taken for the fullest, and there is nothing to do there.
+    LastLevelHasCapacity,
 }

@@ -114,13 +114,24 @@ impl Store {
         (1..LEVELS).find_map(in_level)
     }
 
+    /// The capacity of level 0, 1 or 2.
+    fn capacity_of(&self, level: usize) -> usize {
+        match self.slip {
+            Some(Slip::CapacityShiftedOnce) => 2 << level,
+            Some(Slip::CapacityFromLevelOne) => 2 << (2 * (level + 1)),
+            _ => capacity(level),
+        }
+    }
+
     /// Of levels 0 to 2 above capacity the one with the greatest live/capacity, ties to the lower.
     fn fullest_level(&self) -> Option<usize> {
         let live = |level: usize| self.levels[level].len();
+        if self.slips(Slip::LastLevelHasCapacity) && live(LEVELS - 1) > 128 {
+            return None;
+        }
         let above = |level: &usize| {
-            let at_capacity =
-                self.slips(Slip::CapacityReachedIsAbove) && live(*level) == capacity(*level);
-            live(*level) > capacity(*level) || at_capacity
+            let most = self.capacity_of(*level);
+            live(*level) > most || self.slips(Slip::CapacityReachedIsAbove) && live(*level) == most
         };
         (0..LEVELS - 1).filter(above).reduce(|best, level| {
             match self.compare_fullness(best, level) {
@@ -133,11 +144,12 @@ impl Store {
 
     /// Compares live/capacity of two levels exactly, by multiplying crosswise.
     fn compare_fullness(&self, one: usize, other: usize) -> Ordering {
-        let live = |level: usize| self.levels[level].len();
+        let [(live, most), (other_live, other_most)] =
+            [one, other].map(|level| (self.levels[level].len(), self.capacity_of(level)));
         if self.slips(Slip::RatiosAsWholeNumbers) {
-            return (live(one) / capacity(one)).cmp(&(live(other) / capacity(other)));
+            return (live / most).cmp(&(other_live / other_most));
         }
-        (live(one) * capacity(other)).cmp(&(live(other) * capacity(one)))
+        (live * other_most).cmp(&(other_live * most))
     }
 
     fn choose(&self, level: usize) -> Choice {

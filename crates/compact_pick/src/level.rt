@@ -12,13 +12,12 @@ use book::head::Head;
 use book::index::Index;
 use book::limits::LAST_LEVEL;
 
-// The capacity of levels 0, 1 and 2, in live tables: the one table of them.
+// The capacity of levels 0, 1 and 2, in live tables; level 3 has none.
 fn capacity(n: usize) -> usize
     requires { ⌜ n < lastLevel ⌝ }
     ensures { λ r. ⌜ r ≡ tidy.capacity n ⌝ }
 {
-    let table = [2, 8, 32];
-    table[n]
+    2 << (2 * n)
 }
 
 // Of two levels the fuller one by live tables over capacity, of equals the first; the second may be missing.

@@ -95,12 +95,9 @@ dueTable s = dueIn s (1 ∷ 2 ∷ 3 ∷ [])
 
 -- ---- the level
 
--- Capacities of levels 0, 1 and 2, in live tables.
-abbrev pub capacities : List ℕ
-capacities = 2 ∷ 8 ∷ 32 ∷ []
-
-unfoldable pub capacity : ℕ → ℕ
-capacity n = getD capacities n 0
+-- The capacity of a level, in live tables: 2 shifted left by twice the level number. Level 3 has none, and none is asked for.
+unfoldable pub capacity : (level : ℕ) → ℕ
+capacity n = 2 * 2 ^ (2 * n)
 
 -- Is the second level fuller than the first, by live tables over capacity?
 unfoldable pub fuller : (live : ℕ → ℕ) → (n m : ℕ) → Bool

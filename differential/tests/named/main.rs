@@ -1,6 +1,7 @@
 //! Tests by name: short histories with expected answers written out by hand.
 
 mod book_form;
+mod capacities;
 mod choices;
 mod client;
 mod examples;

@@ -19,6 +19,7 @@ pub mod probed;
 pub mod probes;
 pub mod profile;
 pub mod random;
+pub mod relieved;
 pub mod requests;
 pub mod saving;
 pub mod sketch;

@@ -131,6 +131,11 @@ impl Case {
         Case::of(tidy(), &[6, 0, 6, 0, 20, 0], store.clone(), store)
     }
 
+    /// A tidy that has nothing to do.
+    pub fn idle(store: Sketch) -> Case {
+        Case::of(tidy(), &[6, 0, 6, 0, 65, 0], store.clone(), store)
+    }
+
     /// A flush that is done.
     pub fn flushed(before: Sketch, after: Sketch) -> Case {
         Case::of(flush(), &[6, 0, 5, 0, 0, 0], before, after)

@@ -2,6 +2,7 @@
 
 use super::due::Trigger;
 use super::marks::{Marks, Sifted};
+use super::met;
 use super::working::{bytes_of, Rows, Slice, Working};
 use crate::limits::{capacity, TABLE_ENTRIES};
 use std::collections::{BTreeMap, BTreeSet};
@@ -75,6 +76,7 @@ impl Working {
         if let Some(table) = first.map(|first| &loaded[first]) {
             return Some(self.merge(table.level, table.place, table.due));
         }
+        self.meet_levels();
         let from = self.fullest()?;
         let order = self.order(from);
         let linked: BTreeSet<usize> = self.slices.iter().map(|slice| slice.on).collect();
@@ -93,6 +95,20 @@ impl Working {
         let links = self.link(chosen, &rows, from + 1);
         self.meet_links(from, links);
         Some(Deed::Linked { from, links })
+    }
+
+    /// What a tidy meets on the levels where no merge is due.
+    fn meet_levels(&mut self) {
+        for (level, [at, above]) in met::OF_LEVELS.into_iter().enumerate() {
+            match self.levels[level].len().checked_sub(capacity(level)) {
+                Some(0) => self.met.push(at),
+                Some(1) => self.met.push(above),
+                _ => {}
+            }
+        }
+        if self.levels[3].len() > 128 {
+            self.met.push(met::DEEP);
+        }
     }
 
     /// The level above capacity with the greatest live/capacity; the lower number among equals.

@@ -14,6 +14,14 @@ pub const COUNT_BY_LEVEL: &str = "due by count before one by weight, on two leve
 pub const MARK_COUNTED: &str = "a number that counts a delete mark";
 pub const HIDDEN_COUNTED: &str = "a number that counts a hidden entry";
 
+// Which level is relieved: for levels 0, 1 and 2.
+pub const OF_LEVELS: [[&str; 2]; 3] = [
+    ["level 0 just at its capacity", "level 0 one above its capacity"],
+    ["level 1 just at its capacity", "level 1 one above its capacity"],
+    ["level 2 just at its capacity", "level 2 one above its capacity"],
+];
+pub const DEEP: &str = "more than 128 tables on level 3";
+
 // Which delete marks stay.
 pub const STAYS_BY_RANGE: &str = "delete mark that stays beyond the own keys below";
 pub const STAYS_BETWEEN: &str = "delete mark that stays between own keys and ranges below";
@@ -101,7 +109,7 @@ pub const OF_TIDIES: [&str; 16] = [
     STAYS_BY_LAST,
 ];
 
-/// All of them.
+/// All of them but for `DEEP`, which asks for large stores.
 pub fn all() -> impl Iterator<Item = &'static str> {
-    OF_TIDIES.into_iter().chain(OF_PROBES)
+    OF_TIDIES.into_iter().chain(OF_LEVELS.into_iter().flatten()).chain(OF_PROBES)
 }

@@ -2,6 +2,7 @@
 
 mod bits;
 mod build;
+mod capacities;
 mod cleared;
 mod common;
 mod damage;

@@ -9,6 +9,7 @@ use reference::generate::plan::Plan;
 use reference::generate::planted::{planted, planted_with_marks};
 use reference::generate::profile::{Source, DELETING, PROFILES};
 use reference::generate::random::Random;
+use reference::generate::relieved;
 use reference::generate::requests::report;
 use reference::generate::saving::Saving;
 use reference::implementation::{Implementation, Reference};
@@ -105,6 +106,10 @@ fn history(subject: &Reference, eyes: Eyes, number: u64) -> (Trial<'_>, Source, 
     let mut random = Random::new(7_000_000 + number);
     let turn = number as usize;
     let (keys, places) = shape(number);
+    if number % 50 == 28 {
+        let trial = Trial::of_sound_store(subject, eyes, relieved::deep());
+        return (trial, Source::new(PROFILES[4], keys, number), 24);
+    }
     if number % 10 == 9 {
         let threshold = 1 + number / 10 % 8;
         let trial = Trial::of_new_store(subject, eyes, Lent::zeroed(places), threshold);

@@ -72,12 +72,14 @@ pub fn states(view: &View) -> Vec<State> {
 }
 
 /// Live tables that a level may hold before a tidy takes one away; level 3 has no such limit.
-const CAPACITIES: [Option<usize>; 4] = [Some(2), Some(8), Some(32), None];
+fn capacity(level: usize) -> Option<usize> {
+    (level < 3).then(|| 2 << (2 * level))
+}
 
 /// How many tables a level has, and its capacity.
 pub fn fill(view: &View, level: usize) -> String {
     let tables = counted(view.levels[level].len(), "table", "tables");
-    CAPACITIES[level].map_or(tables.clone(), |most| format!("{tables} (capacity {most})"))
+    capacity(level).map_or(tables.clone(), |most| format!("{tables} (capacity {most})"))
 }
 
 /// The first line of both pictures.

@@ -1,6 +1,7 @@
--- P1 to P10 and the examples of notes 2 and 5 hold, and so do the cases of the slips and the letters: each table is computed as a whole.
+-- P1 to P10 and the examples of notes 2 and 5 hold, and so do the cases of the slips and the letters: each table is computed as a whole. So are the capacities.
 use mathlib.Core.Path.{_≡_, refl}
 use mathlib.Core.Bool.{true}
+use mathlib.Core.List.{[], _∷_, map}
 use Rattle.ldc.specs.Store.{newStore, size, card, links, bytesAt, table, level, mark, within, slice, spanStart, spanEnd, spanHolds, sources}
 use Rattle.ldc.specs.Rules.{named, thresholdGood, ruleA, timesListed, ruleB, ruleC, linkGood, hungOn, apart, ruleE, ruleF, ruleG}
 use Rattle.ldc.specs.Layout.{stateOf, linkCount, linkAt, cardOf, tableSummary, rowWith, rowOf, rowRest, markOf, markGood}
@@ -33,3 +34,8 @@ slips-agree = refl
 pub letters-agree : agree letters ≡ true
 unfolding agree letters newStore size card links bytesAt table level within slice spanStart spanEnd named thresholdGood ruleA timesListed ruleB ruleC linkGood hungOn apart ruleE ruleF ruleG stateOf linkCount linkAt cardOf tableSummary rowWith rowOf rowRest summaryGood summariesGood keptC markOf markGood lentOf placesIn sizesGood levelOf storeOf rowGood numbersGood countsGood unusedZero keptB presupposed keptE keptF keptG broken firstBroken check letterOf entryLength entryBytes entryOf entryAt entryForm zeros entriesBytes tableLength tableBytes countOf entriesAt entries entriesGood allZero tableGood isTable isMemory countWithin leastKey greatestKey numberAt bytesOf exclusiveBit sumBit weighedBit hasBit withBit summaryOf
 letters-agree = refl
+
+-- Note 7: the capacities of levels 0, 1 and 2 are still those that document 01 lists.
+pub capacities-agree : map capacity (0 ∷ 1 ∷ 2 ∷ []) ≡ 2 ∷ 8 ∷ 32 ∷ []
+unfolding capacity
+capacities-agree = refl
