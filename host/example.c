@@ -2,8 +2,7 @@
  * Document 01's example in C: makes a store of 32 places with threshold 4, puts "A" under key 5, looks it up, and prints the
  * answer bytes in hexadecimal. Breaks two rules of a sound store, and prints number and letter of a check before each is mended
  * and at the end. Then saves the store, opens it over an area of twice the places, and looks the key up there. A value is deleted,
- * and tidied away with its delete mark. Probes say which tables a look-up opens, and wrong summary bits are refused. Last, a crack is
- * filed by its millimetre and found by the kilometres of an old crawler.
+ * and tidied away with its delete mark. Last, probes say which tables a look-up opens, and wrong summary bits are refused.
  */
 #include "zilgwern.h"
 
@@ -51,11 +50,6 @@ static const uint8_t probes[] = {
     12, 0, ZILGWERN_PROBE, 0, 4, 1, 0, 0, 0, 0, 0, 0,
     12, 0, ZILGWERN_PROBE, 0, 6, 0, 0, 0, 0, 0, 0, 0,
     12, 0, ZILGWERN_PROBE, 0, 7, 0, 0, 0, 0, 0, 0, 0,
-};
-
-/* A crack on line 12 at 99,999,998 mm. */
-static const uint8_t crack[] = {
-    17, 0, ZILGWERN_PUT, 0, 0xFE, 0xE0, 0xF5, 0x05, 0, 12, 0, 0, 'c', 'r', 'a', 'c', 'k',
 };
 
 /* Prints the number that a check gives, and with 5 the letter. */
@@ -179,46 +173,6 @@ static void break_bits(void)
     print_check();
 }
 
-/* Asks for what is on line 12 at so many kilometres, and prints the result and, when done, the count of values and the first. */
-static void print_at(float kilometres)
-{
-    uint8_t at[] = {14, 0, ZILGWERN_AT, 0, 12, 0, 0, 0, ZILGWERN_KILOMETRES, 0, 0, 0, 0, 0};
-    uint8_t answer[ZILGWERN_ANSWER_ROOM];
-    zilgwern_outcome outcome;
-    uint32_t bits;
-
-    memcpy(&bits, &kilometres, sizeof bits);
-    for (size_t byte = 0; byte < sizeof bits; byte++) {
-        at[10 + byte] = (uint8_t)(bits >> (8 * byte));
-    }
-    zilgwern_run(area, sizeof area, cards, PLACES, lists, ZILGWERN_LIST_ITEMS(PLACES), &head, memory, at, sizeof at, answer,
-                 sizeof answer, &outcome);
-    printf("%.9g km: %u", (double)kilometres, (unsigned)answer[4]);
-    if (answer[4] == ZILGWERN_DONE) {
-        printf(", values %u", (unsigned)answer[6]);
-    }
-    if (answer[4] == ZILGWERN_DONE && answer[6] > 0) {
-        /* Behind the counts the first entry: its length, then from its 12th byte on the value. */
-        printf(": %.*s", answer[10] - 12, (const char *)answer + 10 + 12);
-    }
-    printf("\n");
-}
-
-/* The float 100.0 stands for 99,999,997 to 100,000,003 mm, its neighbour below for the eight before these. A millimetre and a half is the
- * nearest float of no whole one, and 5,000 km are too many. */
-static void file_and_find(void)
-{
-    uint8_t answer[ZILGWERN_ANSWER_ROOM];
-    zilgwern_outcome outcome;
-
-    zilgwern_run(area, sizeof area, cards, PLACES, lists, ZILGWERN_LIST_ITEMS(PLACES), &head, memory, crack, sizeof crack, answer,
-                 sizeof answer, &outcome);
-    print_at(100.0f);
-    print_at(99.99999f);
-    print_at(0.0000015f);
-    print_at(5000.0f);
-}
-
 int main(void)
 {
     uint8_t answer[2 * ZILGWERN_ANSWER_ROOM];
@@ -245,6 +199,5 @@ int main(void)
         return 1;
     }
     break_bits();
-    file_and_find();
     return 0;
 }

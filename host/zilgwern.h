@@ -43,9 +43,8 @@ extern "C" {
 #define ZILGWERN_VALUE_BYTES 51    /* the longest value */
 #define ZILGWERN_ENTRY_BYTES (12 + ZILGWERN_VALUE_BYTES) /* the longest entry: length (2), kind (2), key (8), value */
 #define ZILGWERN_TABLE_ENTRIES 16  /* the most entries of a table, and of the memory table */
-#define ZILGWERN_SCAN_VALUES 16    /* the most values that one scan, or one reading, gives */
-#define ZILGWERN_READING_MILLIMETRES 367 /* the most whole millimetres that one reading stands for */
-#define ZILGWERN_REPLY_BYTES (10 + ZILGWERN_SCAN_VALUES * ZILGWERN_ENTRY_BYTES) /* the longest reply, a scan's or a reading's */
+#define ZILGWERN_SCAN_VALUES 16    /* the most values that one scan gives */
+#define ZILGWERN_REPLY_BYTES (10 + ZILGWERN_SCAN_VALUES * ZILGWERN_ENTRY_BYTES) /* the longest reply, a scan's */
 #define ZILGWERN_LIST_BYTES 65536  /* the longest request list */
 #define ZILGWERN_ANSWER_ROOM 1024  /* bytes that must be left in the answer buffer before a request is served */
 
@@ -172,29 +171,18 @@ enum {
     ZILGWERN_FLUSH = 5,   /* none: writes the memory table to a place and empties it */
     ZILGWERN_TIDY = 6,    /* none: does one step of compaction; step (2), level (2) */
     ZILGWERN_REPORT = 7,  /* none; eight counts (2 each): free, live on levels 0 to 3, frozen, links, memory entries */
-    ZILGWERN_PROBE = 8,   /* key (8); found (2: 1 exactly if a look-up gives a value, else 0), tables that a look-up opens (2), bits
+    ZILGWERN_PROBE = 8    /* key (8); found (2: 1 exactly if a look-up gives a value, else 0), tables that a look-up opens (2), bits
                              set in their summaries, added up (4), then the value if found */
-    ZILGWERN_AT = 9       /* line (4), form (2), reading (8 or 4, by the form); the reply's body is a scan's: the values under the
-                             millimetres of the line that the reading stands for */
 };
 
-/* Forms of a reading. */
-enum {
-    ZILGWERN_MILLIMETRES = 0, /* whole millimetres (8), below 2^40: they stand for themselves */
-    ZILGWERN_KILOMETRES = 1   /* the 32 bits of an IEEE 754 float (4), lowest byte first: kilometres as old crawlers report them */
-};
-
-/* Results in replies. All but 0 come without a body; 16 to 20, 23 and 24 leave the store as it was, and the run goes on. */
+/* Results in replies. All but 0 come without a body; 16 to 20 leave the store as it was, and the run goes on. */
 enum {
     ZILGWERN_DONE = 0,
-    ZILGWERN_UNKNOWN_KIND = 16,  /* a kind outside 1 to 9 */
-    ZILGWERN_WRONG_BODY = 17,    /* body length wrong for the kind, or for the form of a reading */
+    ZILGWERN_UNKNOWN_KIND = 16,  /* a kind outside 1 to 8 */
+    ZILGWERN_WRONG_BODY = 17,    /* body length wrong for the kind */
     ZILGWERN_MEMORY_FULL = 18,   /* put or delete of a key that the memory table lacks, and it holds 16: flush first */
     ZILGWERN_WRONG_RANGE = 19,   /* scan with low above high */
     ZILGWERN_NO_PLACE = 20,      /* fewer free places than the flush or the due merge writes */
-    ZILGWERN_OUT_OF_RANGE = 23,  /* at: line of 2^24 or more, form neither 0 nor 1, millimetres of 2^40 or more, or a float below
-                                    nought, above 4,096 or not a number; minus zero is zero */
-    ZILGWERN_NO_MILLIMETRE = 24, /* at: a float that no whole millimetre rounds to */
     ZILGWERN_NO_VALUE = 64,      /* look up: no value under this key; a probe says so by found */
     ZILGWERN_NOTHING_TO_DO = 65  /* flush of an empty memory table; tidy with no merge due and no level above its capacity */
 };
@@ -215,19 +203,9 @@ enum { ZILGWERN_MOVED = 1, ZILGWERN_LINKED = 2, ZILGWERN_MERGED = 3 };
  */
 
 /*
- * The millimetres that a float of kilometres stands for. A float has 24 bits, so from 16 km on it can't tell every millimetre, and what
- * was measured to the millimetre was reported as the float nearest to it. A reading in kilometres therefore finds what is under every
- * whole millimetre whose distance, rounded to the nearest float (of two as near, to the even one), is that float: 100.0 is any of
- * 99,999,997 to 100,000,003 mm, 4,096.0 any of 4,095,999,878 to 4,096,000,244. Below 16 km it is the other way round: floats lie closer
- * than millimetres, and many are the nearest of none (24). Where a reply has not all the values, more is 1: go on with a scan from behind
- * its last key, up to the last millimetre n with (float)((double)n / 1e6) equal to the float, which is right for all whole millimetres
- * at these distances.
- */
-
-/*
  * Request: length of the whole (2), kind (2), body. A list is requests one behind the other.
  * Reply: length of the whole (2), the request's kind (2), result (2), body.
- * Entry, in the reply of a scan or a reading: length of the whole (2), 1 (2), key (8), value.
+ * Entry, in the reply of a scan: length of the whole (2), 1 (2), key (8), value.
  */
 
 /* What a run gives back beside its number. All 0 but for the letter where the run is refused. */

@@ -6,7 +6,6 @@
 //! 3 a sound store and a list of mostly good requests, cut into runs by the room for answers;
 //! 4 a sound store, saved, its bytes changed and opened (`fuzz_saved`).
 
-use crate::fuzz_list::good_requests;
 use crate::fuzz_saved::saved_and_opened;
 use crate::refused::{broken_name, compared_check, compared_run};
 use crate::Proved;
@@ -14,9 +13,10 @@ use reference::generate::keys::Keys;
 use reference::generate::planted::planted;
 use reference::generate::profile::{Source, PROFILES};
 use reference::generate::random::Random;
+use reference::generate::requests;
 use reference::implementation::Ran;
 use reference::lent::*;
-use reference::limits::{ANSWER_ROOM, CARD_LINKS};
+use reference::limits::{ANSWER_ROOM, CARD_LINKS, VALUE_BYTES};
 use reference::request::split;
 use reference::rules;
 use reference::run::{make, run};
@@ -52,7 +52,7 @@ impl<'a> Tape<'a> {
         self.bytes(count)
     }
 
-    pub(crate) fn word(&mut self) -> u64 {
+    fn word(&mut self) -> u64 {
         let mut bytes = [0; 8];
         let found = self.bytes(8);
         bytes[..found.len()].copy_from_slice(found);
@@ -234,6 +234,53 @@ fn good_list(tape: &mut Tape) -> Result<String, String> {
         if rest.is_empty() || served == 0 {
             return Ok(name_of(&ran, &trial.lent));
         }
+    }
+}
+
+/// Requests from the rest of the input, as many as fit a list. Keys are few, so that they repeat.
+fn good_requests(tape: &mut Tape) -> Vec<u8> {
+    let mut list = Vec::new();
+    while !tape.is_over() {
+        let request = some_request(tape);
+        if list.len() + request.len() > 65_536 {
+            break;
+        }
+        list.extend(request);
+    }
+    list
+}
+
+fn some_request(tape: &mut Tape) -> Vec<u8> {
+    let choice = tape.byte();
+    match choice % 12 {
+        0..=2 => {
+            let key = some_key(tape);
+            let length = usize::from(tape.byte()) % (VALUE_BYTES + 1);
+            requests::put(key, &vec![choice; length])
+        }
+        3 => requests::delete(some_key(tape)),
+        4 if choice < 128 => requests::look_up(some_key(tape)),
+        4 => requests::probe(some_key(tape)),
+        5 => requests::scan(some_key(tape), some_key(tape)),
+        6 => requests::scan(0, u64::MAX),
+        7 => requests::flush(),
+        8 | 9 => requests::tidy(),
+        10 => requests::report(),
+        _ => {
+            let kind = tape.pair();
+            let length = usize::from(tape.byte());
+            requests::request(kind, tape.bytes(length))
+        }
+    }
+}
+
+/// A key from one byte, or from eight behind a byte of all ones. The ends of the range are among the former.
+fn some_key(tape: &mut Tape) -> u64 {
+    match tape.byte() {
+        255 => tape.word(),
+        254 => u64::MAX,
+        253 => u64::MAX - 1,
+        small => u64::from(small),
     }
 }
 

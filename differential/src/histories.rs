@@ -1,13 +1,14 @@
 //! Random histories of the proved store, list after list, under the judge and beside the second implementation. All of a
 //! history follows from its seed, so that one that fails can be repeated alone.
 
-use crate::habit::Habit;
 use crate::refused::spoiled_run;
 use crate::Proved;
+use reference::campaign::key_sets;
 use reference::generate::broken::BREAKAGES;
 use reference::generate::features::FEATURES;
+use reference::generate::keys::Keys;
 use reference::generate::planted::{planted, planted_with_marks};
-use reference::generate::profile::Source;
+use reference::generate::profile::{Source, DELETING, PROFILES};
 use reference::generate::random::{any_lent, mix, Random};
 use reference::implementation::Ran;
 use reference::limits::ANSWER_ROOM;
@@ -39,7 +40,8 @@ pub struct Shape {
     pub list: usize,
     /// Requests after which a history ends.
     pub requests: u64,
-    pub habit: Habit,
+    /// Whether most writes are deletes, of few keys.
+    pub deletes: bool,
 }
 
 /// Small stores made anew, which soon run out of places.
@@ -49,7 +51,7 @@ pub const SMALL: Shape = Shape {
     places: 16..=64,
     list: 160,
     requests: 2_500,
-    habit: Habit::Any,
+    deletes: false,
 };
 
 /// Stores made anew with room for all levels to overflow.
@@ -67,7 +69,7 @@ pub const PLANTED: Shape = Shape {
     places: 16..=160,
     list: 60,
     requests: 300,
-    habit: Habit::Any,
+    deletes: false,
 };
 
 /// Arbitrary sound stores of any size.
@@ -75,26 +77,19 @@ pub const PLANTED_LARGE: Shape =
     Shape { name: "planted-large", places: 161..=4096, list: 1_500, requests: 1_500, ..PLANTED };
 
 /// Small stores made anew that see more deletes than puts, so that most merges meet delete marks.
-pub const DELETES: Shape = Shape { name: "deletes", habit: Habit::Deleting, ..SMALL };
+pub const DELETES: Shape = Shape { name: "deletes", deletes: true, ..SMALL };
 
 /// Small stores rich in delete marks on all levels.
 pub const PLANTED_MARKS: Shape = Shape {
     name: "planted-marks",
     origin: Origin::PlantedWithMarks,
     places: 16..=64,
-    habit: Habit::Deleting,
+    deletes: true,
     ..PLANTED
 };
 
-/// Stores made anew that are asked by readings above all.
-pub const READINGS: Shape = Shape { name: "readings", habit: Habit::Reading, ..SMALL };
-
-/// The same at arbitrary sound stores.
-pub const PLANTED_READINGS: Shape =
-    Shape { name: "planted-readings", habit: Habit::Reading, ..PLANTED };
-
 /// All shapes; those of small stores come more often in a soak.
-pub const SHAPES: [&Shape; 12] = [
+pub const SHAPES: [&Shape; 10] = [
     &SMALL,
     &SMALL,
     &SMALL,
@@ -105,8 +100,6 @@ pub const SHAPES: [&Shape; 12] = [
     &PLANTED_LARGE,
     &DELETES,
     &PLANTED_MARKS,
-    &READINGS,
-    &PLANTED_READINGS,
 ];
 
 /// What some histories came to.
@@ -185,7 +178,7 @@ impl History {
     fn begin(shape: &Shape, seed: u64) -> Result<History, String> {
         let mut random = Random::new(mix(seed));
         let places = some_places(&shape.places, &mut random);
-        let keys = shape.habit.keys(places, &mut random);
+        let keys = *random.pick(&if shape.deletes { few_keys(places) } else { key_sets(places) });
         let trial = match shape.origin {
             Origin::New => {
                 let lent = any_lent(&mut random, places);
@@ -197,7 +190,7 @@ impl History {
                 planted_trial(planted_with_marks(&mut random, places, keys))
             }
         };
-        let profile = shape.habit.profile(&mut random);
+        let profile = if shape.deletes { DELETING } else { *random.pick(&PROFILES) };
         Ok(History { trial, source: Source::new(profile, keys, random.word()), runs: 0 })
     }
 
@@ -244,6 +237,12 @@ impl History {
         names.into_iter().for_each(|name| self.trial.reached.count(name));
         Ok(())
     }
+}
+
+/// Key sets so small that deletes find their keys.
+fn few_keys(places: usize) -> [Keys; 5] {
+    let all = 4 * places as u64;
+    [Keys::Dense(12), Keys::Dense(40), Keys::Edges(30), Keys::Dense(all), Keys::Wide(all)]
 }
 
 /// A trial that begins at a planted store, with its features counted.

@@ -3,10 +3,8 @@
 
 pub mod damage;
 pub mod fuzz;
-mod fuzz_list;
 mod fuzz_saved;
 pub mod guarded;
-pub mod habit;
 pub mod histories;
 pub mod measured;
 pub mod refused;

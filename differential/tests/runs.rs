@@ -3,8 +3,7 @@
 //! fails if it missed something that it should have reached. Every test is one thread's work, so that cores share them.
 
 use differential::histories::{
-    self, Shape, Tally, DELETES, LARGE, MIDDLE, PLANTED, PLANTED_LARGE, PLANTED_MARKS,
-    PLANTED_READINGS, READINGS, SMALL,
+    self, Shape, Tally, DELETES, LARGE, MIDDLE, PLANTED, PLANTED_LARGE, PLANTED_MARKS, SMALL,
 };
 use differential::refused::{required_of_spoiled, spoiled_run};
 use reference::generate::broken::BREAKAGES;
@@ -14,9 +13,7 @@ use reference::generate::planted::planted;
 use reference::generate::profile::{Source, PROFILES};
 use reference::generate::random::Random;
 use reference::judge::met;
-use reference::reached::{
-    required_of_far_readings, required_of_marks_on, required_of_requests, Reached, STOPS,
-};
+use reference::reached::{required_of_marks_on, required_of_requests, Reached, STOPS};
 use std::io::Write;
 use std::time::Instant;
 
@@ -28,8 +25,6 @@ const PLANTED_REQUESTS: u64 = 110_000;
 const PLANTED_LARGE_REQUESTS: u64 = 12_000;
 const DELETES_REQUESTS: u64 = 300_000;
 const PLANTED_MARKS_REQUESTS: u64 = 100_000;
-const READINGS_REQUESTS: u64 = 100_000;
-const PLANTED_READINGS_REQUESTS: u64 = 60_000;
 
 /// What the gate asks for in all.
 const _: () = assert!(
@@ -144,7 +139,7 @@ fn middle_new_stores() {
     let mut required = requests_but(&[&met::BEYOND_NEW[..], &RARE, &stuck].concat());
     required.extend(all_thresholds("new"));
     // A merge in place of a choice is seldom on level 2; some come from this seed on.
-    let tally = complete(&MIDDLE, 2_000_003, MIDDLE_REQUESTS, required);
+    let tally = complete(&MIDDLE, 2_000_675, MIDDLE_REQUESTS, required);
     assert!(sizes(&tally, "new") > 30);
 }
 
@@ -193,27 +188,6 @@ fn planted_stores_rich_in_marks() {
     required.extend(met::OF_MARKS.map(String::from));
     required.extend(all_thresholds("planted"));
     complete(&PLANTED_MARKS, 7_000_001, PLANTED_MARKS_REQUESTS, required);
-}
-
-/// Most requests are readings, and all that they can meet is met: floats of no value, one, several and more than a reply gives.
-fn stores_of_readings(shape: &Shape, origin: &str, seed: u64, requests: u64) {
-    let mut required: Vec<String> = all_thresholds(origin).collect();
-    required.extend(required_of_far_readings());
-    required.extend(met::OF_READINGS.map(String::from));
-    required.push("kind 9 done".into());
-    let tally = complete(shape, seed, requests, required);
-    let done = tally.reached.times("kind 9 done");
-    assert!(done > requests / 5, "{done} readings done");
-}
-
-#[test]
-fn new_stores_of_readings() {
-    stores_of_readings(&READINGS, "new", 8_000_001, READINGS_REQUESTS);
-}
-
-#[test]
-fn planted_stores_of_readings() {
-    stores_of_readings(&PLANTED_READINGS, "planted", 9_000_001, PLANTED_READINGS_REQUESTS);
 }
 
 /// Runs with one or several reasons to be refused, the lowest of which must come; nothing is changed or written.

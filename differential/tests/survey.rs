@@ -7,7 +7,7 @@ use reference::generate::vectors::vectors;
 use reference::judge::met;
 use reference::limits::{LIST_BYTES, VALUE_BYTES};
 use reference::program::{follow, survey};
-use reference::reached::{required_of_far_readings, required_of_requests, Reached};
+use reference::reached::{required_of_requests, Reached};
 use std::fs::File;
 use std::io::{Read, Write};
 use std::os::unix::process::ExitStatusExt;
@@ -104,7 +104,7 @@ fn same(name: &str, ours: &[u8], theirs: &[u8]) {
 #[test]
 fn by_hand() {
     let put_5_and_look_up: &[u8] = b"\x0D\0\x01\0\x05\0\0\0\0\0\0\0A\x0C\0\x03\0\x05\0\0\0\0\0\0\0";
-    let cases: [(&str, &[u8], &[u8]); 10] = [
+    let cases: [(&str, &[u8], &[u8]); 9] = [
         ("document 01's example", put_5_and_look_up, b"\x06\0\x01\0\0\0\x07\0\x03\0\0\0A"),
         ("nothing", b"", b""),
         ("a length of 3", b"\x03\0\x05\0", b""),
@@ -117,23 +117,13 @@ fn by_hand() {
         ),
         (
             "an unknown kind, a body too long",
-            b"\x04\0\x0A\0\x05\0\x05\0\0",
-            b"\x06\0\x0A\0\x10\0\x06\0\x05\0\x11\0",
+            b"\x04\0\x09\0\x05\0\x05\0\0",
+            b"\x06\0\x09\0\x10\0\x06\0\x05\0\x11\0",
         ),
         (
             "a probe of a key in memory, and one without a body",
             b"\x0D\0\x01\0\x05\0\0\0\0\0\0\0A\x0C\0\x08\0\x05\0\0\0\0\0\0\0\x04\0\x08\0",
             b"\x06\0\x01\0\0\0\x0F\0\x08\0\0\0\x01\0\0\0\0\0\0\0A\x06\0\x08\0\x11\0",
-        ),
-        (
-            "0 millimetres on line 0, the float -0.0 there, one of no millimetre, and a line too far",
-            b"\x0C\0\x01\0\0\0\0\0\0\0\0\0\x12\0\x09\0\0\0\0\0\0\0\0\0\0\0\0\0\0\0\
-              \x0E\0\x09\0\0\0\0\0\x01\0\0\0\0\x80\x0E\0\x09\0\0\0\0\0\x01\0\x01\0\0\0\
-              \x0E\0\x09\0\0\0\0\x01\x01\0\0\0\0\0",
-            b"\x06\0\x01\0\0\0\
-              \x16\0\x09\0\0\0\x01\0\0\0\x0C\0\x01\0\0\0\0\0\0\0\0\0\
-              \x16\0\x09\0\0\0\x01\0\0\0\x0C\0\x01\0\0\0\0\0\0\0\0\0\
-              \x06\0\x09\0\x18\0\x06\0\x09\0\x17\0",
         ),
         ("a key that is nowhere", b"\x0C\0\x03\0\x05\0\0\0\0\0\0\0", b"\x06\0\x03\0\x40\0"),
     ];
@@ -149,7 +139,6 @@ fn long_and_refused_lists() {
     let unreached = [&UNREACHED[..], &met::BEYOND_NEW].concat();
     let required =
         required_of_requests().into_iter().filter(|name| !unreached.contains(&name.as_str()));
-    let required = required.chain(required_of_far_readings());
     let mut reached = Reached::requiring(required.chain(["run refused with 4".into()]));
     let (mut lists, mut bytes, mut stops, mut longest) = (0, 0, 0, 0);
     for vector in SEEDS.flat_map(vectors) {

@@ -5,13 +5,13 @@ use crate::generate::broken::BREAKAGES;
 use crate::generate::features::FEATURES;
 use crate::generate::keys::Keys;
 use crate::generate::planted::{planted, planted_with_marks};
-use crate::generate::profile::{Profile, Source, DELETING, PROFILES, READING};
+use crate::generate::profile::{Profile, Source, DELETING, PROFILES};
 use crate::generate::random::Random;
 use crate::implementation::Implementation;
 use crate::judge::met;
 use crate::lent::Lent;
 use crate::limits::{ANSWER_ROOM, LIST_BYTES};
-use crate::reached::{required_of_far_readings, required_of_requests, Reached, STOPS, STUCK};
+use crate::reached::{required_of_requests, Reached, STOPS, STUCK};
 use crate::store::Store;
 use crate::trial::{Eyes, Finding, Trial};
 
@@ -143,7 +143,6 @@ pub fn jobs(seed: u64) -> Vec<Job> {
     jobs.extend((0..5000).map(|number| planted_job(number, seed, extent(24, 1, 1))));
     jobs.extend(jobs_of_deletes(seed, extent(1500, 1, 1)));
     jobs.extend((0..1000).map(|number| marked_job(number, seed, extent(24, 1, 1))));
-    jobs.extend((0..40).map(|number| reading_job(number, seed, extent(400, 4, 1))));
     jobs
 }
 
@@ -208,20 +207,9 @@ fn marked_job(number: usize, seed: u64, extent: Extent) -> Job {
     Job { origin: Origin::PlantedWithMarks { places }, profile, keys, seed, extent }
 }
 
-/// Histories of readings, on new stores and on planted ones in turn, over few keys and over many.
-fn reading_job(number: usize, seed: u64, extent: Extent) -> Job {
-    let places = [16, 32, 64, 96][number / 2 % 4];
-    let threshold = 1 + number as u64 / 2 % 8;
-    let origins = [Origin::New { places, threshold }, Origin::Planted { places }];
-    let keys = [Keys::Far(60), Keys::Far(300), Keys::Far(900)][number % 3];
-    let seed = seed.wrapping_mul(1 << 32) + 40_000_000 + number as u64;
-    Job { origin: origins[number % 2], profile: READING, keys, seed, extent }
-}
-
 /// Everything that a campaign must have reached.
 pub fn required() -> Vec<String> {
     let mut names = required_of_requests();
-    names.extend(required_of_far_readings());
     for threshold in 1..=8 {
         names.push(format!("new store with threshold {threshold}"));
         names.push(format!("planted store with threshold {threshold}"));

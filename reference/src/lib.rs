@@ -15,7 +15,6 @@ pub mod probe;
 pub mod program;
 pub mod reached;
 pub mod read;
-pub mod reading;
 pub mod reopen;
 pub mod reopened;
 pub mod request;

@@ -47,18 +47,6 @@ pub const LIST_BYTES: usize = 65_536;
 /// Room that must be left in the answer buffer before a request is served.
 pub const ANSWER_ROOM: usize = 1024;
 
-/// Lines that a key can name: 24 bits.
-pub const LINES: u32 = 1 << 24;
-
-/// Millimetres that a key can name on a line: 40 bits.
-pub const LINE_MILLIMETRES: u64 = 1 << 40;
-
-/// The farthest reading of a float.
-pub const FARTHEST_KILOMETRES: f32 = 4096.0;
-
-/// Millimetres of a kilometre.
-pub const KILOMETRE: u64 = 1_000_000;
-
 /// How many live tables a level holds before tidy takes one away: 2 shifted left by twice the level number. Level 3 has no such
 /// limit, and asking for it is a mistake.
 pub fn capacity(level: usize) -> usize {

@@ -17,9 +17,6 @@ pub struct Reached {
 /// A full store: neither a flush nor a tidy finds the places that it needs.
 pub const STUCK: &str = "20 by a flush and then by a tidy";
 
-/// 23 and 24 are those of readings alone.
-const READING_17: &str = "result 17 of a reading";
-
 /// The longest list position at which a stop is required to be seen.
 pub const STOPS: usize = 16;
 
@@ -76,9 +73,6 @@ impl Reached {
         }
         if followed.replaced {
             self.count(["a value overwritten", "a value deleted"][usize::from(served.kind == 2)]);
-        }
-        if (served.kind, result) == (9, 17) {
-            self.count(READING_17);
         }
         if (served.kind, result) == (4, 0) {
             self.follow_scan(served.reply);
@@ -190,10 +184,7 @@ pub fn required_of_requests() -> Vec<String> {
         "result 17",
         "result 18",
         "result 19",
-        "result 23",
-        "result 24",
         "result 64",
-        READING_17,
         "kind 5 with nothing to do",
         "kind 6 with nothing to do",
         "20 by a flush",
@@ -225,13 +216,8 @@ pub fn required_of_requests() -> Vec<String> {
     let triggers = [Trigger::Count, Trigger::Weight, Trigger::Both];
     names.extend(triggers.map(|trigger| trigger_name(trigger).into()));
     names.extend(met::all().map(String::from));
-    names.extend((1..10).map(|kind| format!("kind {kind} done")));
+    names.extend((1..9).map(|kind| format!("kind {kind} done")));
     names
-}
-
-/// What readings of keys that lie close together must have reached.
-pub fn required_of_far_readings() -> Vec<String> {
-    met::OF_FAR_READINGS.map(String::from).to_vec()
 }
 
 /// What merges with delete marks on a level must have reached. On level 3 every one goes.

@@ -1,8 +1,6 @@
 //! Requests and replies as bytes: splitting a list, reading a request, writing a reply.
 
 use crate::limits::{LIST_BYTES, VALUE_BYTES};
-use crate::reading::Reading;
-use crate::slip::Slip;
 use crate::table::{u16_at, u64_at, Key};
 
 /// A request as it stands in the list.
@@ -23,7 +21,6 @@ pub enum Command<'a> {
     Tidy,
     Report,
     Probe { key: Key },
-    Read(Reading),
 }
 
 /// A reply before it is written: result and body.
@@ -70,14 +67,13 @@ pub fn split(list: &[u8]) -> Option<Vec<Request<'_>>> {
 }
 
 /// Reads a request: 16 for an unknown kind, then 17 for a body of the wrong length.
-pub fn read<'a>(request: &Request<'a>, slip: Option<Slip>) -> Result<Command<'a>, u16> {
+pub fn read<'a>(request: &Request<'a>) -> Result<Command<'a>, u16> {
     let body = request.body;
     let lengths = match request.kind {
         1 => 8..=8 + VALUE_BYTES,
         2 | 3 | 8 => 8..=8,
         4 => 16..=16,
         5..=7 => 0..=0,
-        9 => return Reading::of(body, slip).map(Command::Read),
         _ => return Err(16),
     };
     if !lengths.contains(&body.len()) {

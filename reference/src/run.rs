@@ -94,7 +94,7 @@ impl Store {
 
     /// Serves one request.
     pub fn serve(&mut self, request: &Request) -> Reply {
-        let command = match read(request, self.slip) {
+        let command = match read(request) {
             Ok(command) => command,
             Err(number) => return Reply::bare(number),
         };
@@ -110,11 +110,6 @@ impl Store {
             Command::Flush => Reply::bare(self.flush()),
             Command::Tidy => self.tidy(),
             Command::Probe { key } => self.probe_reply(key),
-            Command::Read(reading) => match reading.keys(self.slip) {
-                Ok((low, high)) => self.scan_reply(low, high),
-                Err(24) if self.slips(Slip::NothingFoundFor24) => Reply::done(vec![0; 4]),
-                Err(number) => Reply::bare(number),
-            },
             Command::Report => {
                 Reply::done(self.report().iter().flat_map(|count| count.to_le_bytes()).collect())
             }

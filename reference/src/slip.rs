@@ -241,27 +241,4 @@ slips! {
     CapacityFromLevelOne,
     /// Level 3 has a capacity like the others, 128; above it it is taken for the fullest, and there is nothing to do there.
     LastLevelHasCapacity,
-
-    // Readings (note 8).
-    /// Floats below a power of two are taken to lie as far apart as those above it, and numbers just below it go to it that are
-    /// nearer to the float before.
-    BelowPowerAsAbove,
-    /// A float means the one millimetre that is nearest to it.
-    NearestMillimetreAlone,
-    /// The millimetres of 4,096.0 are cut at 4,096 kilometres.
-    FloatsCutAtFarthest,
-    /// A line out of range is judged after 24.
-    LineJudgedLast,
-    /// Of the form the low byte alone is read: 256 is taken for 0.
-    FormOfOneByte,
-    /// Minus zero is below nought.
-    MinusZeroRefused,
-    /// A float out of range is taken for one of no millimetre.
-    FloatsOutOfRangeAre24,
-    /// A float of no millimetre is answered like one whose millimetres have no values.
-    NothingFoundFor24,
-    /// Either form may have either length.
-    EitherLengthTaken,
-    /// A line out of range is judged before the length.
-    LineBeforeLength,
 }

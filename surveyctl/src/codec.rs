@@ -3,7 +3,6 @@
 use crate::command::Command;
 use crate::failure::Failure;
 use crate::options::Options;
-use crate::reading::reading_words;
 use crate::session::{refusal_words, reply_words};
 use crate::words::{hexadecimal, key_words, value_words};
 use crate::Streams;
@@ -92,7 +91,7 @@ fn write_list(list: &[u8], whole: bool, out: &mut dyn Write) -> Result<(), Failu
 
 /// The name of a kind of request.
 fn kind_words(kind: u16) -> String {
-    let names = ["put", "del", "get", "scan", "flush", "tidy", "report", "probe", "at"];
+    let names = ["put", "del", "get", "scan", "flush", "tidy", "report", "probe"];
     let name = names.get(usize::from(kind).wrapping_sub(1));
     name.map_or_else(|| format!("kind {kind}"), |name| name.to_string())
 }
@@ -108,7 +107,6 @@ pub fn request_words(request: &Request, whole: bool) -> String {
         }
         Request::Scan(low, high) => format!("{name} {} {}", key(*low), key(*high)),
         Request::Flush | Request::Tidy | Request::Report => name,
-        Request::At(line, reading) => format!("{name} {line} {}", reading_words(*reading)),
     }
 }
 
@@ -120,7 +118,7 @@ fn write_answers(answers: &[u8], whole: bool, out: &mut dyn Write) -> Result<(),
         let (kind, reply) = Reply::take(&mut rest).ok_or_else(|| {
             Failure::Words(format!("byte {at}: these are no answers of the store"))
         })?;
-        // Values of a scan or a reading stand below its name.
+        // Values of a scan stand below its name.
         let words = reply_words(&reply, whole).replace('\n', "\n  ");
         let gap = if matches!(reply, Reply::Page(_)) { "\n  " } else { " " };
         writeln!(out, "{}:{gap}{words}", kind_words(kind))?;

@@ -1,13 +1,12 @@
 //! One line of the prompt or of a script as a command.
 
-use crate::reading::take_at;
 use crate::words::{take_key, take_put, take_range, take_word};
 use zilgwern::{Key, Request};
 
 /// What a line asks for.
 #[derive(Clone, PartialEq, Eq, Debug)]
 pub enum Command {
-    /// A request, just as it is: put, get, del, flush, tidy, report, probe; and at, of which all values are printed.
+    /// A request, just as it is: put, get, del, flush, tidy, report, probe.
     Ask(Request),
     /// All values of a range, however many.
     Scan(Key, Key),
@@ -54,10 +53,6 @@ impl Command {
             "tidy" => Command::Ask(Request::Tidy),
             "report" => Command::Ask(Request::Report),
             "probe" => Command::Ask(Request::Probe(take_key(rest)?)),
-            "at" => {
-                let (line, reading) = take_at(rest)?;
-                Command::Ask(Request::At(line, reading))
-            }
             "check" => Command::Check,
             "show" => Command::Show,
             "help" | "?" => Command::Help(take_word(rest).into()),

@@ -11,7 +11,6 @@ mod loops;
 mod options;
 mod picture;
 mod probe;
-mod reading;
 mod replay;
 mod saved;
 mod session;

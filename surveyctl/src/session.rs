@@ -6,11 +6,9 @@ use crate::file::StoreFile;
 use crate::help;
 use crate::options::Options;
 use crate::words::{key_words, value_words};
-use crate::{picture, probe, reading};
+use crate::{picture, probe};
 use std::io::Write;
-use zilgwern::{
-    Key, List, Page, Range, Reading, Refusal, Reply, Report, Request, Step, Stepped, Store,
-};
+use zilgwern::{Key, List, Page, Refusal, Reply, Report, Request, Step, Stepped, Store};
 
 pub struct Session {
     pub store: Store<'static>,
@@ -50,7 +48,6 @@ impl Session {
     pub fn perform(&mut self, command: Command, out: &mut dyn Write) -> Result<(), Failure> {
         match command {
             Command::Ask(Request::Probe(key)) => self.probe(key, out),
-            Command::Ask(Request::At(line, reading)) => self.at(line, reading, out),
             Command::Ask(request) => self.ask(&request, out),
             Command::Scan(low, high) => self.scan(low, high, out),
             Command::TidyAll => self.tidy_all(out),
@@ -91,14 +88,16 @@ impl Session {
     }
 
     fn scan(&mut self, low: Key, high: Key, out: &mut dyn Write) -> Result<(), Failure> {
-        print_values(self.store.range(low, high), self.whole, out)
-    }
-
-    /// All values at a reading, and what it stands for.
-    fn at(&mut self, line: u32, reading: Reading, out: &mut dyn Write) -> Result<(), Failure> {
-        print_values(self.store.all_at(line, reading), self.whole, out)
-            .map_err(|failure| reading::explained(failure, line, reading))?;
-        Ok(out.write_all(reading::stands_for_words(line, reading, self.whole).as_bytes())?)
+        let mut count = 0;
+        for found in self.store.range(low, high) {
+            let (key, value) = found?;
+            writeln!(out, "{}", entry_words(key, &value, self.whole))?;
+            count += 1;
+        }
+        if count == 0 {
+            writeln!(out, "no values")?;
+        }
+        Ok(())
     }
 
     /// Tidies until there is nothing to do. What was done is told even where a step is refused in the end.
@@ -120,26 +119,12 @@ impl Session {
     }
 }
 
-/// All values of a range, one on a line.
-fn print_values(range: Range, whole: bool, out: &mut dyn Write) -> Result<(), Failure> {
-    let mut count = 0;
-    for found in range {
-        let (key, value) = found?;
-        writeln!(out, "{}", entry_words(key, &value, whole))?;
-        count += 1;
-    }
-    if count == 0 {
-        writeln!(out, "no values")?;
-    }
-    Ok(())
-}
-
 /// A key and its value on one line.
 fn entry_words(key: Key, value: &[u8], whole: bool) -> String {
     format!("{}  {}", key_words(key, whole), value_words(value))
 }
 
-/// A reply in words; that of a scan or a reading has a line for each value.
+/// A reply in words; a scan's has a line for each value.
 pub fn reply_words(reply: &Reply, whole: bool) -> String {
     match reply {
         Reply::Done => "done".into(),

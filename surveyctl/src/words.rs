@@ -11,17 +11,17 @@ pub fn take_word<'a>(rest: &mut &'a str) -> &'a str {
 }
 
 /// The next word, left where it is.
-pub fn next_word(rest: &str) -> &str {
+fn next_word(rest: &str) -> &str {
     take_word(&mut { rest })
 }
 
 /// Whether a word is digits and nothing else.
-pub fn digits(word: &str) -> bool {
+fn digits(word: &str) -> bool {
     !word.is_empty() && word.bytes().all(|byte| byte.is_ascii_digit())
 }
 
 /// Whether a word is written as metres are: digits, a point, digits.
-pub fn looks_like_metres(word: &str) -> bool {
+fn looks_like_metres(word: &str) -> bool {
     word.split_once('.').is_some_and(|(whole, part)| digits(whole) && digits(part))
 }
 
@@ -40,7 +40,7 @@ fn may_begin_with_metres(text: &str) -> bool {
 }
 
 /// Metres with up to three digits behind the point, as millimetres.
-pub fn millimetres(word: &str) -> Result<u64, String> {
+fn millimetres(word: &str) -> Result<u64, String> {
     let (whole, part) = word.split_once('.').unwrap_or((word, ""));
     if part.len() > 3 {
         return Err(format!("{word}: metres have at most three digits behind the point"));
@@ -178,13 +178,8 @@ pub fn key_words(key: Key, whole: bool) -> String {
     match (key, whole || line == 0) {
         (_, true) => key.0.to_string(),
         (Key::GREATEST, _) => "last".into(),
-        _ => format!("{line} {}", metres_words(distance)),
+        _ => format!("{line} {}.{:03}", distance / 1000, distance % 1000),
     }
-}
-
-/// Millimetres as metres.
-pub fn metres_words(distance: u64) -> String {
-    format!("{}.{:03}", distance / 1000, distance % 1000)
 }
 
 /// A range as it is printed, as short as a scan takes it: 12 3.000 to 4.000.

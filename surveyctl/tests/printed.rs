@@ -117,7 +117,7 @@ fn the_links_of_the_texts_lead_somewhere() {
 #[test]
 fn the_examples_of_the_help_texts_are_understood() {
     let folder = Folder::new("help");
-    let names = ["put", "get", "del", "scan", "probe", "at", "show", "new", "grow", "save", "open"];
+    let names = ["put", "get", "del", "scan", "probe", "show", "new", "grow", "save", "open"];
     for name in names {
         let text = folder.done(&["help", name]);
         assert_eq!(text, folder.done(&[name, "--help"]));
@@ -155,7 +155,7 @@ fn every_command_has_a_help_text() {
     }
     assert!(count > 18);
     let texts = [
-        "put", "scan", "probe", "at", "check", "show", "script", "replay", "decode", "new", "grow",
+        "put", "scan", "probe", "check", "show", "script", "replay", "decode", "new", "grow",
         "save", "open",
     ];
     let texts = texts.map(|it| folder.done(&["help", it]));

@@ -4,6 +4,21 @@ use Rattle.coding.specs.declared.key.Key.{Key}
 use Rattle.coding.specs.declared.key.Built.{Built}
 use Rattle.coding.specs.declared.key.Built.TheVariants.{Whole, Refused}
 
+-- A line and a distance that fit their bits make a key; others are refused.
+unfoldable pub key_of : (line distance : ℕ) → Built
+key_of line distance =
+    cond (ltb line (2 ^ 24) && ltb distance (2 ^ 40))
+    (Whole (record { value = line * 2 ^ 40 + distance }))
+    Refused
+
+-- The line number in a key.
+abbrev pub line_of : (key : ℕ) → ℕ
+line_of key = key / 2 ^ 40
+
+-- The distance in a key, in millimetres.
+abbrev pub distance_of : (key : ℕ) → ℕ
+distance_of key = key % 2 ^ 40
+
 -- Lines and distances are below these.
 abbrev pub lines : ℕ
 lines = 2 ^ 24
@@ -14,15 +29,3 @@ distances = 2 ^ 40
 -- The key of a line and a distance that fit their bits.
 abbrev pub key_on : (line distance : ℕ) → Key
 key_on line distance = record { value = line * distances + distance }
-
--- Others are refused.
-unfoldable pub key_of : (line distance : ℕ) → Built
-key_of line distance = cond (ltb line lines && ltb distance distances) (Whole (key_on line distance)) Refused
-
--- The line number in a key.
-abbrev pub line_of : (key : ℕ) → ℕ
-line_of key = key / distances
-
--- The distance in a key, in millimetres.
-abbrev pub distance_of : (key : ℕ) → ℕ
-distance_of key = key % distances

@@ -33,6 +33,20 @@ impl Key {
         value: 18446744073709551615,
     };
 
+    // The key of a place in a line, distance in millimetres; what does not fit is refused.
+    pub fn of(line: u32, distance: u64) -> Built
+        ensures { result ≡ key_of line distance }
+    {
+        if line < LINES {
+            if distance < DISTANCES {
+                return Built::Whole(Key {
+                    value: (line as u64) * DISTANCES + distance,
+                });
+            }
+        }
+        Built::Refused
+    }
+
     // The key of a place in a line, distance in millimetres, where both fit.
     pub fn on(line: u32, distance: u64) -> Key
         requires { (line < lines) × (distance < distances) }
@@ -41,18 +55,6 @@ impl Key {
         Key {
             value: (line as u64) * DISTANCES + distance,
         }
-    }
-
-    // The same where they may not fit; then they are refused.
-    pub fn of(line: u32, distance: u64) -> Built
-        ensures { result ≡ key_of line distance }
-    {
-        if line < LINES {
-            if distance < DISTANCES {
-                return Built::Whole(Key::on(line, distance));
-            }
-        }
-        Built::Refused
     }
 
     // The line number that a key holds.

@@ -69,9 +69,7 @@ fn hang_all(area: &[u8], cards: &mut [Row], items: &[u16], p: usize)
 // Link: the chosen table is frozen, and each table below that is responsible for an entry of it gains a link.
 pub fn link(area: &[u8], cards: &mut [Row], items: &[u16], p: usize)
     requires { Linkable area.now cards.old items.now p }
-    ensures { cards.new
-        ≡ hung_rows (table_in area p) (slices_seen area cards items p)
-        (set cards.old p (frozen_row (get_or cards.old p []))) }
+    ensures { cards.new ≡ hung_rows (table_in area p) (slices_seen area cards items p) (set cards.old p (frozen_row (get_or cards.old p []))) }
 {
     row::freeze(cards, p);
     hang_all(area, cards, items, p);

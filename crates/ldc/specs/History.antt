@@ -6,13 +6,10 @@ use Rattle.coding.specs.Number.{number_at}
 use Rattle.table.specs.Entry.{Entry, length_at}
 use Rattle.table.specs.Table.{entries}
 use Rattle.table.specs.Search.{find}
-use Rattle.reading.specs.declared.body.KeyRange.{KeyRange}
-use Rattle.reading.specs.declared.body.KeyRange.TheVariants.{Between, OutOfRange, NoMillimetre}
-use Rattle.reading.specs.Body.{length_good, keys_in}
 use Rattle.ldc.specs.Lists.{any, keep}
 use Rattle.ldc.specs.Store.{Link, Store, new_store, card, links, is_frozen, bytes_at, within}
 use Rattle.ldc.specs.Lent.{Lent, store_of, places_in, broken}
-use Rattle.ldc.specs.Request.{put_kind, delete_kind, look_up_kind, scan_kind, tidy_kind, probe_kind, reading_kind, done_result, no_value, key_size}
+use Rattle.ldc.specs.Request.{put_kind, delete_kind, look_up_kind, scan_kind, tidy_kind, probe_kind, done_result, no_value, key_size}
 use Rattle.ldc.specs.Request.{Request, reply_bytes, key_in, high_in, value_in}
 use Rattle.ldc.specs.Memtable.{put}
 use Rattle.ldc.specs.Read.{value_of, scan_body}
@@ -95,17 +92,7 @@ compared r reply = cond (eqb r.kind probe_kind) (without_counts reply) reply
 abbrev pub map_probe : Option (List ℕ) → List ℕ
 map_probe v = without_counts (reply_bytes probe_kind done_result (probe_body v 0 0))
 
--- The reply that the map gives to a scan, or to another kind that replies as one.
-abbrev pub map_scan : List Entry → (kind low high : ℕ) → List ℕ
-map_scan m kind low high = reply_bytes kind done_result (scan_body (within low high m))
-
--- To a reading: that of a scan over the keys that it stands for. Where it stands for none, the map says nothing.
-abbrev pub map_reading : List Entry → KeyRange → Option (List ℕ)
-map_reading m (Between low high) = some (map_scan m reading_kind low.value high.value)
-map_reading m OutOfRange = none
-map_reading m NoMillimetre = none
-
--- The reply that the map gives: to look-ups, probes, scans and readings of the right length, low not above high. It says nothing of other requests.
+-- The reply that the map gives: to look-ups, probes and scans of the right length, low not above high. It says nothing of other requests.
 unfoldable pub map_reply : List Entry → Request → Option (List ℕ)
 map_reply m r =
     cond (eqb r.kind look_up_kind && eqb (length r.body) key_size)
@@ -113,10 +100,8 @@ map_reply m r =
     (cond (eqb r.kind probe_kind && eqb (length r.body) key_size)
     (some (map_probe (value_of (find (key_in r.body) m))))
     (cond (eqb r.kind scan_kind && (eqb (length r.body) (2 * key_size) && leb (key_in r.body) (high_in r.body)))
-    (some (map_scan m scan_kind (key_in r.body) (high_in r.body)))
-    (cond (eqb r.kind reading_kind && length_good r.body)
-    (map_reading m (keys_in r.body))
-    none)))
+    (some (reply_bytes scan_kind done_result (scan_body (within (key_in r.body) (high_in r.body) m))))
+    none))
 
 abbrev pub Agrees : Option (List ℕ) → List ℕ → Type 0
 Agrees none reply = Unit {0}
@@ -199,7 +184,7 @@ link_of u = link_to (entries u.held) u.slice
 
 -- The claim about the replies and the memory at the end of a history from a start, given the slice list: `m` is what is lent at the end.
 pub record Holds (x : Start) (es : List Event) (us : List Unmerged) (m : Lent) : Type 0 where
-  -- look-ups, probes, scans and readings answer as the latest-write map
+  -- look-ups, probes and scans answer as the latest-write map
   pub answered : Answered x.values es
   -- the memory is that of a sound store: every word of it is where and what the rules allow
   pub sound : broken m ≡ []

@@ -1,5 +1,4 @@
--- Document 01, in its order, with the notes of document 02. What a reader of the store must believe stands here, in the formats of `table`, and in
--- what `summary` and `reading` define for it.
+-- Document 01, in its order. What a reader of the store must believe stands here and in the formats of `table`.
 --   Lists      small functions on lists
 --   Store      links, cards, the store, a new store, spans, what is to be read of a table
 --   Rules      a sound store: rules A to G as far as they speak of the store
@@ -8,7 +7,7 @@
 --   Request    requests and replies: kinds and results by name, body lengths, bytes
 --   Memtable   put and delete
 --   Place      the place taken, tables written, flush
---   Read       the read order, look-up, scan, also over a crawler's reading (note 8), report
+--   Read       the read order, look-up, scan, report
 --   Probe      which tables a look-up opens, and the request that tells of them (document 02, note 6)
 --   Tidy       which step is due: due merge, level, choice, ranges; the step is named here
 --   Steps      the named step is done: move, link, merge

@@ -1,16 +1,13 @@
--- Reading: the read order, look-up, scan, also over a crawler's reading, report.
+-- Reading: the read order, look-up, scan, report.
 use Rattle.std.specs.Prelude.{ℕ, List, [], ◌∷◌, ◌++◌, map, reverse, Bool, cond, ltb, length, take}
 use Rattle.std.proofs.Math.Option.{Option, some, none}
 use Rattle.coding.specs.Number.{bytes_of}
 use Rattle.table.specs.Entry.{Entry}
 use Rattle.table.specs.Table.{entries_bytes}
 use Rattle.table.specs.Search.{find}
-use Rattle.reading.specs.declared.body.KeyRange.{KeyRange}
-use Rattle.reading.specs.declared.body.KeyRange.TheVariants.{Between, OutOfRange, NoMillimetre}
-use Rattle.reading.specs.Body.{keys_in}
 use Rattle.ldc.specs.Lists.{keep, how_many, flat, is_some}
 use Rattle.ldc.specs.Store.{Store, links_of, is_free, is_frozen, level, table, sources, within}
-use Rattle.ldc.specs.Request.{Served, bad_range, out_of_range, no_millimetre, no_value, done, only}
+use Rattle.ldc.specs.Request.{Served, bad_range, no_value, done, only}
 use Rattle.ldc.specs.Memtable.{put}
 
 -- The read order: memory; level 0 newest first; for levels 1, 2, 3 each table's links, newest first, then the table.
@@ -67,17 +64,6 @@ scan_body found =
 -- Number 19: low above high.
 unfoldable pub serve_scan : Store → (low high : ℕ) → Served
 serve_scan s low high = cond (ltb high low) (only bad_range s) (done s (scan_body (within low high (contents s))))
-
--- ---- a scan over a crawler's reading (document 02, note 8)
-
--- A scan over the keys that the reading stands for; 23 or 24 where it stands for none.
-abbrev pub scan_keys : Store → KeyRange → Served
-scan_keys s (Between low high) = serve_scan s low.value high.value
-scan_keys s OutOfRange = only out_of_range s
-scan_keys s NoMillimetre = only no_millimetre s
-
-unfoldable pub serve_reading : Store → (body : List ℕ) → Served
-serve_reading s body = scan_keys s (keys_in body)
 
 -- ---- report
 

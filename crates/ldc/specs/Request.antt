@@ -1,8 +1,7 @@
--- Requests and replies (document 01; document 02, notes 6 and 8): kinds, body lengths, results, and their bytes.
+-- Requests and replies (document 01): kinds, body lengths, results, and their bytes.
 use Rattle.std.specs.Prelude.{ℕ, ◌+◌, ◌*◌, List, [], ◌++◌, Bool, cond, ◌&&◌, ◌||◌, leb, eqb, length, drop}
 use Rattle.coding.specs.Number.{number_at, bytes_of}
 use Rattle.table.specs.Limits.{value_limit}
-use Rattle.reading.specs.Body.{length_good}
 use Rattle.ldc.specs.Store.{Store}
 
 -- ---- the numbers, each said once
@@ -32,10 +31,7 @@ report_kind = 7
 abbrev pub probe_kind : ℕ
 probe_kind = 8
 
-abbrev pub reading_kind : ℕ
-reading_kind = 9
-
--- The results: done; refused by 16 to 20, 23 and 24; done, with 64 or 65 for nothing found or nothing to do.
+-- The results: done; refused by 16 to 20; done, with 64 or 65 for nothing found or nothing to do.
 abbrev pub done_result : ℕ
 done_result = 0
 
@@ -56,14 +52,6 @@ bad_range = 19
 -- Free places fewer than a flush or a merge writes.
 abbrev pub no_room : ℕ
 no_room = 20
-
--- A reading that is none: its line, form or millimetres out of range, or a float below zero, above 4,096 kilometres or not a number.
-abbrev pub out_of_range : ℕ
-out_of_range = 23
-
--- A reading to which no whole millimetre rounds.
-abbrev pub no_millimetre : ℕ
-no_millimetre = 24
 
 abbrev pub no_value : ℕ
 no_value = 64
@@ -102,16 +90,14 @@ unfoldable pub reply_of : Request → Served → List ℕ
 reply_of r v = reply_bytes r.kind v.result v.body
 
 unfoldable pub known : (kind : ℕ) → Bool
-known kind = leb put_kind kind && leb kind reading_kind
+known kind = leb put_kind kind && leb kind probe_kind
 
--- The length of the body that each kind has: put key and value; delete, look-up and probe a key; scan low and high key; a reading the
--- length of its form; the others none.
-unfoldable pub body_good : (kind : ℕ) → (body : List ℕ) → Bool
-body_good kind body =
-    cond (eqb kind put_kind) (leb key_size (length body) && leb (length body) (key_size + value_limit))
-    (cond (eqb kind delete_kind || (eqb kind look_up_kind || eqb kind probe_kind)) (eqb (length body) key_size)
-    (cond (eqb kind scan_kind) (eqb (length body) (2 * key_size))
-    (cond (eqb kind reading_kind) (length_good body) (eqb (length body) 0))))
+-- The body that each kind has: put key and value; delete, look-up and probe a key; scan low and high key; the others none.
+unfoldable pub body_good : (kind length : ℕ) → Bool
+body_good kind len =
+    cond (eqb kind put_kind) (leb key_size len && leb len (key_size + value_limit))
+    (cond (eqb kind delete_kind || (eqb kind look_up_kind || eqb kind probe_kind)) (eqb len key_size)
+    (cond (eqb kind scan_kind) (eqb len (2 * key_size)) (eqb len 0)))
 
 -- The first and the second key in a body, and the value behind the first.
 unfoldable pub key_in : List ℕ → ℕ

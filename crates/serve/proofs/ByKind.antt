@@ -10,12 +10,11 @@ use lib.ListN.{length}
 use Rattle.table.specs.Entry.{entry_of, entry_form}
 use Rattle.table.proofs.Tests.{and_parts}
 use Rattle.table.specs.Limits.{value_limit, entry_limit, entry_head}
-use Rattle.reading.specs.Body.{length_good}
 use Rattle.ldc.specs.Store.{Store}
 use Rattle.ldc.specs.Request.{known, body_good, key_in, high_in, value_in, only, key_size}
 use Rattle.ldc.specs.Memtable.{serve_put}
 use Rattle.ldc.specs.Place.{serve_flush}
-use Rattle.ldc.specs.Read.{serve_look_up, serve_scan, serve_reading, serve_report}
+use Rattle.ldc.specs.Read.{serve_look_up, serve_scan, serve_report}
 use Rattle.ldc.specs.Probe.{serve_probe}
 use Rattle.ldc.specs.Steps.{serve_tidy}
 use Rattle.ldc.specs.Serve.{serve_kind, serve}
@@ -25,44 +24,40 @@ use Rattle.compact_pick.specs.Plan.{plan_of}
 use Rattle.serve_write.specs.Turn.{request, suspect_after}
 
 -- The test of the code before it looks at the kind.
-abbrev pub good : (kind : ℕ) → (body : List ℕ) → Bool
-good kind body = cond (known kind) (body_good kind body) true
+abbrev pub good : (kind len : ℕ) → Bool
+good kind len = cond (known kind) (body_good kind len) true
 
-known_of : (kind : ℕ) → 1 ≤ kind → kind ≤ 9 → known kind ≡ true
+known_of : (kind : ℕ) → 1 ≤ kind → kind ≤ 8 → known kind ≡ true
 unfolding known
-known_of kind low high = rw (le-leb 1 kind low, le-leb kind 9 high)
+known_of kind low high = rw (le-leb 1 kind low, le-leb kind 8 high)
 
 pub unknown-0 : known 0 ≡ false
 unfolding known
 unknown-0 = refl
 
-pub unknown-above : (kind : ℕ) → 10 ≤ kind → known kind ≡ false
+pub unknown-above : (kind : ℕ) → 9 ≤ kind → known kind ≡ false
 unfolding known
-unknown-above kind h = rw (le-leb 1 kind (omega arith), lt-leb kind 9 h)
+unknown-above kind h = rw (le-leb 1 kind (omega arith), lt-leb kind 8 h)
 
 module _ (kind : ℕ) (body : List ℕ) where
   -- A known kind with a good body.
-  fits : 1 ≤ kind → kind ≤ 9 → good kind body ≡ true → body_good kind body ≡ true
+  fits : 1 ≤ kind → kind ≤ 8 → good kind (length body) ≡ true → body_good kind (length body) ≡ true
   fits low high g = let k = known_of kind low high in rw k at g
 
   -- The lengths that a good body has.
-  pub length-3 : kind ≡ 3 → good kind body ≡ true → length body ≡ 8
+  pub length-3 : kind ≡ 3 → good kind (length body) ≡ true → length body ≡ 8
   unfolding body_good
   length-3 e g = let f = fits (omega arith) (omega arith) g in eqb-true (length body) 8 (rw e at f)
 
-  pub length-8 : kind ≡ 8 → good kind body ≡ true → length body ≡ 8
+  pub length-8 : kind ≡ 8 → good kind (length body) ≡ true → length body ≡ 8
   unfolding body_good
   length-8 e g = let f = fits (omega arith) (omega arith) g in eqb-true (length body) 8 (rw e at f)
 
-  pub length-9 : kind ≡ 9 → good kind body ≡ true → length_good body ≡ true
-  unfolding body_good
-  length-9 e g = let f = fits (omega arith) (omega arith) g in rw e at f
-
-  pub length-4 : kind ≡ 4 → good kind body ≡ true → length body ≡ 16
+  pub length-4 : kind ≡ 4 → good kind (length body) ≡ true → length body ≡ 16
   unfolding body_good
   length-4 e g = let f = fits (omega arith) (omega arith) g in eqb-true (length body) 16 (rw e at f)
 
-  form-1 : kind ≡ 1 → good kind body ≡ true → (8 ≤ length body) × (entry_form kind (4 + length body) ≡ true)
+  form-1 : kind ≡ 1 → good kind (length body) ≡ true → (8 ≤ length body) × (entry_form kind (4 + length body) ≡ true)
   unfolding body_good entry_form
   form-1 e g =
       let f = fits (omega arith) (omega arith) g in
@@ -71,14 +66,14 @@ module _ (kind : ℕ) (body : List ℕ) where
       let high = leb-true (length body) (key_size + value_limit) p.1 in
       (low, rw (e, le-leb entry_head (4 + length body) (omega arith), le-leb (4 + length body) entry_limit (omega arith)))
 
-  form-2 : kind ≡ 2 → good kind body ≡ true → (8 ≤ length body) × (entry_form kind (4 + length body) ≡ true)
+  form-2 : kind ≡ 2 → good kind (length body) ≡ true → (8 ≤ length body) × (entry_form kind (4 + length body) ≡ true)
   unfolding body_good entry_form
   form-2 e g =
       let f = fits (omega arith) (omega arith) g in
       let l = eqb-true (length body) 8 (rw e at f) in
       (omega arith, rw (e, l))
 
-  pub form-put : 1 ≤ kind → kind ≤ 2 → good kind body ≡ true → (8 ≤ length body) × (entry_form kind (4 + length body) ≡ true)
+  pub form-put : 1 ≤ kind → kind ≤ 2 → good kind (length body) ≡ true → (8 ≤ length body) × (entry_form kind (4 + length body) ≡ true)
   form-put low high g = cases (eqb kind 2) (λ q. form-2 (eqb-true kind 2 q) g) (λ q. form-1 (omega (arith, eqb-false kind 2 q)) g)
 
 module _ (s : Store) (kind : ℕ) (body : List ℕ) where
@@ -86,45 +81,41 @@ module _ (s : Store) (kind : ℕ) (body : List ℕ) where
   unfolding serve
   serve-unknown h = rw h
 
-  pub serve-misfit : good kind body ≡ false → serve s (request kind body) ≡ only 17 s
+  pub serve-misfit : good kind (length body) ≡ false → serve s (request kind body) ≡ only 17 s
   unfolding serve
   serve-misfit h =
       cases (known kind) (λ q. rw (q, (rw q at h)))
       (λ q. absurd (true≢false (rw q at h)))
 
-  serve-good : 1 ≤ kind → kind ≤ 9 → good kind body ≡ true → serve s (request kind body) ≡ serve_kind s kind body
+  serve-good : 1 ≤ kind → kind ≤ 8 → good kind (length body) ≡ true → serve s (request kind body) ≡ serve_kind s kind body
   unfolding serve
   serve-good low high g = rw (known_of kind low high, fits kind body low high g)
 
-  pub serve-3 : kind ≡ 3 → good kind body ≡ true → serve s (request kind body) ≡ serve_look_up s (key_in body)
+  pub serve-3 : kind ≡ 3 → good kind (length body) ≡ true → serve s (request kind body) ≡ serve_look_up s (key_in body)
   unfolding serve_kind
   serve-3 e g = serve-good (omega arith) (omega arith) g ∙ rw e
 
-  pub serve-4 : kind ≡ 4 → good kind body ≡ true → serve s (request kind body) ≡ serve_scan s (key_in body) (high_in body)
+  pub serve-4 : kind ≡ 4 → good kind (length body) ≡ true → serve s (request kind body) ≡ serve_scan s (key_in body) (high_in body)
   unfolding serve_kind
   serve-4 e g = serve-good (omega arith) (omega arith) g ∙ rw e
 
-  pub serve-5 : kind ≡ 5 → good kind body ≡ true → serve s (request kind body) ≡ serve_flush s
+  pub serve-5 : kind ≡ 5 → good kind (length body) ≡ true → serve s (request kind body) ≡ serve_flush s
   unfolding serve_kind
   serve-5 e g = serve-good (omega arith) (omega arith) g ∙ rw e
 
-  pub serve-6 : kind ≡ 6 → good kind body ≡ true → serve s (request kind body) ≡ serve_tidy s
+  pub serve-6 : kind ≡ 6 → good kind (length body) ≡ true → serve s (request kind body) ≡ serve_tidy s
   unfolding serve_kind
   serve-6 e g = serve-good (omega arith) (omega arith) g ∙ rw e
 
-  pub serve-7 : kind ≡ 7 → good kind body ≡ true → serve s (request kind body) ≡ serve_report s
+  pub serve-7 : kind ≡ 7 → good kind (length body) ≡ true → serve s (request kind body) ≡ serve_report s
   unfolding serve_kind
   serve-7 e g = serve-good (omega arith) (omega arith) g ∙ rw e
 
-  pub serve-8 : kind ≡ 8 → good kind body ≡ true → serve s (request kind body) ≡ serve_probe s (key_in body)
+  pub serve-8 : kind ≡ 8 → good kind (length body) ≡ true → serve s (request kind body) ≡ serve_probe s (key_in body)
   unfolding serve_kind
   serve-8 e g = serve-good (omega arith) (omega arith) g ∙ rw e
 
-  pub serve-9 : kind ≡ 9 → good kind body ≡ true → serve s (request kind body) ≡ serve_reading s body
-  unfolding serve_kind
-  serve-9 e g = serve-good (omega arith) (omega arith) g ∙ rw e
-
-  pub serve-put : 1 ≤ kind → kind ≤ 2 → good kind body ≡ true
+  pub serve-put : 1 ≤ kind → kind ≤ 2 → good kind (length body) ≡ true
       → serve s (request kind body) ≡ serve_put s (entry_of kind (key_in body) (value_in body))
   unfolding serve_kind entry_of
   serve-put low high g =
@@ -140,16 +131,16 @@ module _ (on : ℕ) (s : Store) (kind : ℕ) (body : List ℕ) where
   unfolding suspect_after
   after-other h = rw (ne_eqb kind 6 h)
 
-  pub after-misfit : good kind body ≡ false → on ≡ suspect_after on s (request kind body)
+  pub after-misfit : good kind (length body) ≡ false → on ≡ suspect_after on s (request kind body)
   unfolding suspect_after
   after-misfit h =
       cases (eqb kind 6)
       (λ q. let e = eqb-true kind 6 q in
       let k = known_of kind (omega arith) (omega arith) in
-      let f : body_good kind body ≡ false = rw k at h in
+      let f : body_good kind (length body) ≡ false = rw k at h in
       rw (q, f))
       (λ q. rw q)
 
-  pub after-tidy : kind ≡ 6 → good kind body ≡ true → calm_after on (plan_of s) ≡ suspect_after on s (request kind body)
+  pub after-tidy : kind ≡ 6 → good kind (length body) ≡ true → calm_after on (plan_of s) ≡ suspect_after on s (request kind body)
   unfolding suspect_after
   after-tidy e g = rw (fits kind body (omega arith) (omega arith) g, e)

@@ -15,7 +15,7 @@ use Rattle.ldc.specs.Store.{Store, with_memory}
 use Rattle.ldc.specs.Lent.{Lent, store_of, lent_of}
 use Rattle.ldc.specs.Request.{Served, reply_bytes, only}
 use Rattle.ldc.specs.Memtable.{serve_put}
-use Rattle.ldc.specs.Read.{look_up, serve_look_up, serve_report}
+use Rattle.ldc.specs.Read.{look_up, serve_look_up, serve_scan, serve_report}
 use Rattle.ldc.specs.Probe.{serve_probe}
 use Rattle.ldc.proofs.Basics.Cases.{cases}
 use Rattle.ldc.proofs.Lent.Rules.{unbroken}
@@ -30,6 +30,10 @@ use Rattle.wire.specs.Reply.{replied, Written}
 use Rattle.read.proofs.Pieces.{row-eight, length-fits}
 use Rattle.serve_write.specs.Turn.{turn, turned}
 use Rattle.serve_write.proofs.Turns.{turn-same, turn-bare}
+
+pub scan-store : (s : Store) (low high : ℕ) → (serve_scan s low high).store ≡ s
+unfolding serve_scan
+scan-store s low high = cases (ltb high low) (λ q. rw q) (λ q. rw q)
 
 pub look-up-store : (s : Store) (k : ℕ) → (serve_look_up s k).store ≡ s
 unfolding serve_look_up

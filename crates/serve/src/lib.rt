@@ -11,7 +11,7 @@ ghost use Rattle.wire.specs.Reply.{Room};
 
 use book::head::Head;
 use book::row::Row;
-use serve_read::{look_up, probe, readings, report, scan};
+use serve_read::{look_up, probe, report, scan};
 use serve_write::steps::Turn;
 use serve_write::{put, steps};
 use wire::{body, kinds, reply, results};
@@ -35,7 +35,7 @@ pub fn serve(
         ≡ turned_by (held area cards lists head memory) (request kind body.now) answer.old at)
         × (result.suspect ≡ suspect_after suspect (store_of (held area cards lists head memory)) (request kind body.now)) }
 {
-    if !body::is_good(kind, body) {
+    if !body::is_good(kind, body.len()) {
         return Turn {
             head,
             suspect,
@@ -62,9 +62,7 @@ pub fn serve(
             Turn {
                 head,
                 suspect,
-                written: scan::scan_reply(
-                    area, cards, lists, head, memory, kind, low, high, answer, at,
-                ),
+                written: scan::scan_reply(area, cards, lists, head, memory, low, high, answer, at),
             }
         }
         kinds::FLUSH => {
@@ -84,11 +82,6 @@ pub fn serve(
                 written: probe::probe_reply(area, cards, lists, head, memory, key, answer, at),
             }
         }
-        kinds::READING => Turn {
-            head,
-            suspect,
-            written: readings::reading_reply(area, cards, lists, head, memory, body, answer, at),
-        },
         kinds::NO_KIND | kinds::FIRST_UNKNOWN..=kinds::LAST_UNKNOWN => Turn {
             head,
             suspect,

@@ -20,7 +20,7 @@ use Rattle.ldc.specs.Layout.{level_count}
 use Rattle.ldc.specs.Request.{Request, tidy_kind, known, body_good, key_in, high_in}
 use Rattle.ldc.specs.Memtable.{serve_put}
 use Rattle.ldc.specs.Place.{free_places, place_taken, written, flushed, serve_flush}
-use Rattle.ldc.specs.Read.{serve_look_up, serve_report, look_up}
+use Rattle.ldc.specs.Read.{serve_look_up, serve_scan, serve_report, look_up}
 use Rattle.ldc.specs.Probe.{serve_probe}
 use Rattle.ldc.specs.Tidy.{Spot, due_with, due, due_in, due_table, merge_step, down_step, slices_of, overfull, round, tidy_step}
 use Rattle.ldc.specs.Steps.{replaced, leaves, do_move, do_link, do_merge, step_served, serve_tidy}
@@ -36,7 +36,7 @@ use Rattle.ldc.proofs.Steps.LinkShape.{link-threshold, link-bytes, link-elsewher
 use Rattle.ldc.proofs.Steps.Merge.{other-links, level-other}
 use Rattle.ldc.proofs.Steps.MergeShape.{merge-kept, merge-threshold}
 use Rattle.ldc.proofs.Steps.Flush.{flush-links, flush-bytes}
-use Rattle.ldc.proofs.Serving.Keeps.{some-length, look-store, scan-store, reading-store}
+use Rattle.ldc.proofs.Serving.Keeps.{some-length, look-store}
 use Rattle.ldc.proofs.Serving.ServeCases.{serve-cases}
 use Rattle.compact_pick.specs.Calm.{CalmBut, calm_after}
 use Rattle.compact_pick.specs.Plan.{plan_of, level_plan}
@@ -218,7 +218,7 @@ module _ (s : Store) (S : Sound s) where
   unfolding suspect_after
   stays on r h = rw (ne_eqb r.kind tidy_kind h)
 
-  misfits : (on : ℕ) (r : Request) → body_good r.kind r.body ≡ false → suspect_after on s r ≡ on
+  misfits : (on : ℕ) (r : Request) → body_good r.kind (length r.body) ≡ false → suspect_after on s r ≡ on
   unfolding suspect_after
   misfits on r h = cases (eqb r.kind tidy_kind) (λ q. rw (q, h)) (λ q. rw q)
 
@@ -237,10 +237,9 @@ module _ (s : Store) (S : Sound s) where
     put = λ k _ _. rw (stays on r (λ e. omega arith)) (calm_put on _ calm);
     delete = λ k _. rw (stays on r (λ e. omega arith)) (calm_put on _ calm);
     look = λ k _. unfold serve_look_up in rw (stays on r (λ e. omega arith), look-store s (look_up s (key_in r.body))) calm;
-    scan = λ k _. rw (stays on r (λ e. omega arith), scan-store s (key_in r.body) (high_in r.body)) calm;
+    scan = λ k _. unfold serve_scan in rw (stays on r (λ e. omega arith)) (cases (ltb (high_in r.body) (key_in r.body)) (λ q. rw q calm) (λ q. rw q calm));
     flush = λ k _. rw (stays on r (λ e. omega arith)) (calm-flush on calm);
     tidy = λ k z. rw (tidies on r k z) (calm-tidy on calm);
     probe = λ k _. unfold serve_probe in rw (stays on r (λ e. omega arith)) calm;
-    reading = λ k _. rw (stays on r (λ e. omega arith), reading-store s r.body) calm;
     report = λ k _. unfold serve_report in rw (stays on r (λ e. omega arith)) calm;
   })

@@ -3,13 +3,11 @@
 --   Probed    the reply to a probe
 --   Fills     values written one behind the other
 --   Reply     the reply to a scan
---   KeyRanges the reply to a reading, by the keys that it stands for
 --   Turn      one turn of the loop that counts cards
 --   Counted   the counts of the report
 pub mod Decided
 pub mod Probed
 pub mod Fills
 pub mod Reply
-pub mod KeyRanges
 pub mod Turn
 pub mod Counted

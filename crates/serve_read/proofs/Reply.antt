@@ -1,4 +1,4 @@
--- The reply to a scan, of whatever kind the request is: what is written, entries first and the head last, is the reply that the definition gives.
+-- The reply to a scan: what is written, entries first and the head last, is the reply that the definition gives.
 use Prim.Native.Nat.{ℕ, suc, ◌+◌, ◌*◌, ◌-◌, ◌≤◌, ◌<◌, min}
 use mathlib.Core.Path.{◌≡◌, sym, ◌∙◌, ap}
 use mathlib.Core.Bool.{cond}
@@ -57,17 +57,17 @@ module _ (bytes keys spots : List ℕ) (found : ℕ) (W : List Entry) (g : Gathe
 -- ---- the reply
 
 -- Entries, then count and more before them, then the head before these.
-pub scan-written : (kind : ℕ) (a : List ℕ) (at count more : ℕ) (es : List ℕ)
-    → sets (sets (sets a (at + 10) es) (at + 6) (numbers (count ∷ more ∷ []))) at (reply_head kind 0 (4 + length es))
-    ≡ sets a at (reply_bytes kind 0 (bytes_of 2 count ++ bytes_of 2 more ++ es))
+pub scan-written : (a : List ℕ) (at count more : ℕ) (es : List ℕ)
+    → sets (sets (sets a (at + 10) es) (at + 6) (numbers (count ∷ more ∷ []))) at (reply_head 4 0 (4 + length es))
+    ≡ sets a at (reply_bytes 4 0 (bytes_of 2 count ++ bytes_of 2 more ++ es))
 unfolding numbers
-scan-written kind a at count more es =
+scan-written a at count more es =
     let c = bytes_of 2 count in
     let m = bytes_of 2 more in
     let ns : List ℕ = c ++ (m ++ []) in
     let body : List ℕ = c ++ m ++ es in
     let four : length ns ≡ 4 = simp (length-append, length-bytes_of) in
-    let six = length-head kind 0 (4 + length es) in
+    let six = length-head 4 0 (4 + length es) in
     let joined : ns ++ es ≡ body = simp (append_assoc, append-nil) in
     let long : length body ≡ 4 + length es = simp (length-append, length-bytes_of) (omega arith) in
     let ten : at + 6 + length ns ≡ at + 10 = omega arith in
@@ -76,8 +76,8 @@ scan-written kind a at count more es =
     ∙ ap (λ (n : ℕ). sets (sets a (at + 6) ns) n es) (sym ten)
     ∙ sym (sets-append a (at + 6) ns es) ∙ ap (λ (b : List ℕ). sets a (at + 6) b) joined in
     rw one
-    (sym (sets-comm a at (reply_head kind 0 (4 + length es)) (at + 6) body (omega arith))
-    ∙ ap (λ (n : ℕ). sets (sets a at (reply_head kind 0 n)) (at + 6) body) (sym long) ∙ reply-written a at kind 0 body)
+    (sym (sets-comm a at (reply_head 4 0 (4 + length es)) (at + 6) body (omega arith))
+    ∙ ap (λ (n : ℕ). sets (sets a at (reply_head 4 0 n)) (at + 6) body) (sym long) ∙ reply-written a at 4 0 body)
 
 -- ---- what is served
 
@@ -96,26 +96,26 @@ module _ (s : Store) (low high : ℕ) where
       )
 
   -- Low above high.
-  pub scan-refused : (kind : ℕ) (a : List ℕ) (at : ℕ) (next : List ℕ) → high < low → next ≡ sets a at (reply_head kind 19 0)
-      → Written a at (replied kind (serve_scan s low high)) next 6
+  pub scan-refused : (a : List ℕ) (at : ℕ) (next : List ℕ) → high < low → next ≡ sets a at (reply_head 4 19 0)
+      → Written a at (replied 4 (serve_scan s low high)) next 6
   unfolding serve_scan
-  scan-refused kind a at next h w = rw (lt-ltb high low h) (record { bytes = w ∙ reply-written a at kind 19 []; count = sym (length-reply kind 19 []) })
+  scan-refused a at next h w = rw (lt-ltb high low h) (record { bytes = w ∙ reply-written a at 4 19 []; count = sym (length-reply 4 19 []) })
 
   -- Entries, their count, whether more are left, and the head.
-  pub scan-done : (kind : ℕ) (a : List ℕ) (at : ℕ) (filled next : List ℕ) (count more end : ℕ) → low ≤ high
+  pub scan-done : (a : List ℕ) (at : ℕ) (filled next : List ℕ) (count more end : ℕ) → low ≤ high
       → filled ≡ sets a (at + 10) (entries_bytes (take scan_limit (within low high (contents s))))
       → count ≡ length (take scan_limit (within low high (contents s)))
       → end ≡ at + 10 + length (entries_bytes (take scan_limit (within low high (contents s))))
       → more ≡ cond (ltb scan_limit (length (within low high (contents s)))) 1 0
-      → next ≡ sets (sets filled (at + 6) (numbers (count ∷ more ∷ []))) at (reply_head kind 0 (end - (at + 6)))
-      → Written a at (replied kind (serve_scan s low high)) next (end - at)
+      → next ≡ sets (sets filled (at + 6) (numbers (count ∷ more ∷ []))) at (reply_head 4 0 (end - (at + 6)))
+      → Written a at (replied 4 (serve_scan s low high)) next (end - at)
   unfolding serve_scan scan_body
-  scan-done kind a at filled next count more end h wf wc we wm w =
+  scan-done a at filled next count more end h wf wc we wm w =
       let W = within low high (contents s) in
       let es = entries_bytes (take scan_limit W) in
       let n : end - (at + 6) ≡ 4 + length es = omega arith in
       let body : List ℕ = bytes_of 2 count ++ bytes_of 2 more ++ es in
       let long : length body ≡ 4 + length es = simp (length-append, length-bytes_of) (omega arith) in
-      let written : next ≡ sets a at (reply_bytes kind 0 body) = w ∙ rw (n, wf) (scan-written kind a at count more es) in
-      let total : end - at ≡ length (reply_bytes kind 0 body) = omega (arith, length-reply kind 0 body) in
+      let written : next ≡ sets a at (reply_bytes 4 0 body) = w ∙ rw (n, wf) (scan-written a at count more es) in
+      let total : end - at ≡ length (reply_bytes 4 0 body) = omega (arith, length-reply 4 0 body) in
       rw (le-ltb high low h, ← wc, ← wm) (record { bytes = written; count = total })

@@ -1,6 +1,5 @@
 // Requests that read, with their replies.
 pub mod look_up;
 pub mod probe;
-pub mod readings;
 pub mod report;
 pub mod scan;

@@ -3,6 +3,7 @@ ghost use Rattle.std.specs.Prelude.{◌≡◌, cond, ◌++◌, map, ◌+◌, ◌
 ghost use Rattle.table.specs.Entry.{entry_at};
 ghost use Rattle.table.specs.Limits.{entry_limit};
 ghost use Rattle.ldc.specs.Lent.{store_of};
+ghost use Rattle.ldc.specs.Request.{scan_kind};
 ghost use Rattle.ldc.specs.Read.{scan_limit, serve_scan};
 ghost use Rattle.book.specs.Pieces.{given, held};
 ghost use Rattle.read.specs.Shown.{Readable};
@@ -15,7 +16,7 @@ use book::head::Head;
 use book::row::Row;
 use coding::key::Key;
 use read_iterator::spot;
-use wire::{reply, results};
+use wire::{kinds, reply, results};
 
 // A scan gives at most so many values.
 const SCAN_LIMIT: usize = 16;
@@ -69,24 +70,23 @@ fn copy_values(
     end
 }
 
-// Writes the reply to a scan, or to another kind that replies as one, from `at` on, and gives its length.
+// Writes the reply to a scan from `at` on, and gives its length.
 pub fn scan_reply(
     area: &[u8],
     cards: &[Row],
     lists: &[u16],
     head: Head,
     memory: &[u8],
-    kind: u16,
     low: Key,
     high: Key,
     answer: &mut [u8],
     at: usize,
 ) -> usize
     requires { Readable (given area cards lists head memory) × Room answer.old at }
-    ensures { Wrote answer at (replied kind (serve_scan (store_of (held area cards lists head memory)) low.value high.value)) result }
+    ensures { Wrote answer at (replied scan_kind (serve_scan (store_of (held area cards lists head memory)) low.value high.value)) result }
 {
     if high.value < low.value {
-        reply::write_head(answer, at, kind, results::BAD_RANGE, 0);
+        reply::write_head(answer, at, kinds::SCAN, results::BAD_RANGE, 0);
         return reply::REPLY_HEAD;
     }
     let mut keys = [0u64; SCAN_ROOM];
@@ -109,7 +109,7 @@ pub fn scan_reply(
     reply::write_head(
         answer,
         at,
-        kind,
+        kinds::SCAN,
         results::DONE,
         end - (at + reply::REPLY_HEAD),
     );

@@ -31,7 +31,7 @@ turned_by m q answer at = turned q.kind (serve (store_of m) q) answer at
 
 -- The level that can have due merges once a request was served: that of a tidy's plan, after any other the same.
 unfoldable pub suspect_after : (suspect : ℕ) → Store → Request → ℕ
-suspect_after on s q = cond (eqb q.kind tidy_kind && body_good q.kind q.body) (calm_after on (plan_of s)) on
+suspect_after on s q = cond (eqb q.kind tidy_kind && body_good q.kind (length q.body)) (calm_after on (plan_of s)) on
 
 abbrev pub request : (kind : ℕ) → (body : List ℕ) → Request
 request kind body = record { kind = kind; body = body }

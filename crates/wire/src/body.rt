@@ -12,16 +12,14 @@ use table::limits;
 pub const KEY: usize = 8;
 
 // Number 17: has the body a length that its kind allows? Unknown kinds are not judged here.
-pub fn is_good(kind: u16, body: &[u8]) -> bool
-    ensures { result ≡ cond (known kind) (body_good kind body.now) true }
+pub fn is_good(kind: u16, len: usize) -> bool
+    ensures { result ≡ cond (known kind) (body_good kind len) true }
 {
-    let len = body.len();
     match kind {
         kinds::PUT => (KEY <= len) & (len <= KEY + limits::VALUE_LIMIT),
         kinds::DELETE | kinds::LOOK_UP | kinds::PROBE => len == KEY,
         kinds::SCAN => len == KEY + KEY,
         kinds::FLUSH..=kinds::REPORT => len == 0,
-        kinds::READING => reading::body::length_good(body),
         kinds::NO_KIND | kinds::FIRST_UNKNOWN..=kinds::LAST_UNKNOWN => true,
     }
 }

@@ -1,4 +1,4 @@
-// The kinds of requests (document 01; document 02, notes 6 and 8): numbers of two bytes, each said once.
+// The kinds of requests (document 01; document 02, note 6): numbers of two bytes, each said once.
 
 pub const PUT: u16 = 1;
 
@@ -16,11 +16,9 @@ pub const REPORT: u16 = 7;
 
 pub const PROBE: u16 = 8;
 
-pub const READING: u16 = 9;
-
 // The kinds that don't exist: 0, and all from this one to the last.
 pub const NO_KIND: u16 = 0;
 
-pub const FIRST_UNKNOWN: u16 = 10;
+pub const FIRST_UNKNOWN: u16 = 9;
 
 pub const LAST_UNKNOWN: u16 = 65535;

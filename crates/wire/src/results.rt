@@ -1,4 +1,4 @@
-// The numbers that say how a request or a call ended (document 01, "Refused runs and requests"; document 02), each said once.
+// The numbers that say how a request or a call ended (document 01, "Refused runs and requests"), each said once.
 
 // ---- results of requests
 
@@ -16,12 +16,6 @@ pub const BAD_RANGE: u16 = 19;
 
 // Free places fewer than the flush or merge writes.
 pub const NO_ROOM: u16 = 20;
-
-// A reading: line, form or millimetres out of range, or a float below zero, above 4,096 kilometres or not a number (document 02, note 8).
-pub const OUT_OF_RANGE: u16 = 23;
-
-// A reading to which no whole millimetre rounds.
-pub const NO_MILLIMETRE: u16 = 24;
 
 // No value under this key.
 pub const NO_VALUE: u16 = 64;

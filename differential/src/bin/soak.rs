@@ -12,9 +12,8 @@ Leads the proved store through random histories until at least N requests are se
 implementation and its judge: numbers, answers and every byte that was lent. N is a plain number (2000000), or millions with
 an M behind it (2M). Histories have consecutive seeds from SEED on, which is taken from the clock if it is not given. SHAPE is
 small, middle or large (new stores of so many places), planted or planted-large (arbitrary sound ones), deletes or
-planted-marks (small ones, new or arbitrary, with many delete marks), readings or planted-readings (the same, with many
-readings); without it, each history's seed chooses. All of a history follows from its seed and shape; one that fails is told
-with the command that repeats it alone.
+planted-marks (small ones, new or arbitrary, with many delete marks); without it, each history's seed chooses. All of a
+history follows from its seed and shape; one that fails is told with the command that repeats it alone.
 
 Status 0: no difference. 2: wrong arguments. Any other: a difference, or a byte written outside of what was lent.";
 

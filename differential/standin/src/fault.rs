@@ -130,15 +130,10 @@ const FAULTS: &[Fault] = &[
     ("bit_live", |done| flip_bit(done, 1)),
     ("bit_frozen", |done| flip_bit(done, 2)),
     ("bit_free", |done| flip_bit(done, 0)),
-    ("probe_found", |done| spoil_replies(done, 8, 6)),
-    ("probe_opened", |done| spoil_replies(done, 8, 8)),
-    ("probe_bits", |done| spoil_replies(done, 8, 10)),
-    ("probe_bits_wide", |done| spoil_replies(done, 8, 13)),
-    ("reading_kind", |done| spoil_replies(done, 9, 3)),
-    ("reading_result", |done| spoil_replies(done, 9, 5)),
-    ("reading_count", |done| spoil_replies(done, 9, 6)),
-    ("reading_more", |done| spoil_replies(done, 9, 8)),
-    ("reading_key", |done| spoil_replies(done, 9, 14)),
+    ("probe_found", |done| spoil_probe(done, 6)),
+    ("probe_opened", |done| spoil_probe(done, 8)),
+    ("probe_bits", |done| spoil_probe(done, 10)),
+    ("probe_bits_wide", |done| spoil_probe(done, 13)),
     ("link_number", |done| {
         let linked = done.cards.iter_mut().find(|row| row[ROW_COUNT] > 0);
         linked.into_iter().for_each(|row| {
@@ -171,12 +166,12 @@ fn flip_bit(done: &mut Done, state: u64) {
     card.into_iter().for_each(|row| row[ROW_WORDS - 1] ^= u64::from(done.number == 0) << 63);
 }
 
-/// Flips a bit in a byte of each reply of this kind that is so long.
-fn spoil_replies(done: &mut Done, kind: u8, byte: usize) {
+/// Flips a bit in a byte of each reply of kind 8 that has a body.
+fn spoil_probe(done: &mut Done, byte: usize) {
     let (mut at, end) = (0, done.written());
     while at < end {
         let length = usize::from(u16::from_le_bytes([done.answers[at], done.answers[at + 1]]));
-        if done.answers[at + 2] == kind && length > byte {
+        if done.answers[at + 2] == 8 && length > byte {
             done.answers[at + byte] ^= 1;
         }
         at += length;

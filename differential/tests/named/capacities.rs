@@ -2,11 +2,22 @@
 //! which the second implementation is held to as well; here the judge and the comparison look on, and every buffer stands between
 //! guards.
 
-use crate::cases::tests_of;
+use differential::Proved;
 use reference::generate::relieved;
+use reference::trial::Eyes;
 
+/// Makes a test of each case of `relieved`.
 macro_rules! tests {
-    ($($name:ident)*) => { tests_of!(relieved, $($name)*); };
+    ($($name:ident)*) => {
+        $(
+            #[test]
+            fn $name() {
+                for (number, case) in relieved::$name().iter().enumerate() {
+                    assert_eq!(case.hold(&Proved, Eyes::Both), Ok(()), "case {number}");
+                }
+            }
+        )*
+    };
 }
 
 reference::every_relieved_case!(tests);

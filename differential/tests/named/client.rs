@@ -22,8 +22,6 @@ pub enum Ask {
     LookUp(u64),
     Probe(u64),
     Scan(u64, u64),
-    /// A reading on a line, with a float's bits.
-    Kilometres(u32, u32),
     Flush,
     Tidy,
     Report,
@@ -61,7 +59,6 @@ impl Ask {
             Ask::Tidy => 6,
             Ask::Report => 7,
             Ask::Probe(_) => 8,
-            Ask::Kilometres(..) => 9,
             Ask::Odd(kind, _) => *kind,
         }
     }
@@ -74,9 +71,6 @@ impl Ask {
             }
             Ask::Delete(key) | Ask::LookUp(key) | Ask::Probe(key) => key.to_le_bytes().to_vec(),
             Ask::Scan(low, high) => [low.to_le_bytes(), high.to_le_bytes()].concat(),
-            Ask::Kilometres(line, bits) => {
-                [&line.to_le_bytes()[..], &[1, 0], &bits.to_le_bytes()].concat()
-            }
             Ask::Flush | Ask::Tidy | Ask::Report => Vec::new(),
             Ask::Odd(_, length) => vec![7; *length],
         };
@@ -111,7 +105,7 @@ fn reply(kind: u16, answers: &mut &[u8]) -> Reply {
     let (result, body) = (pair(whole, 4), &whole[6..]);
     match (result, kind) {
         (0, 3) => Reply::Value(text(body)),
-        (0, 4 | 9) => values(body),
+        (0, 4) => values(body),
         (0, 6) => {
             assert_eq!(body.len(), 4);
             Reply::Step(pair(body, 0), pair(body, 2))

@@ -2,7 +2,6 @@
 
 mod book_form;
 mod capacities;
-mod cases;
 mod choices;
 mod client;
 mod examples;
@@ -14,7 +13,6 @@ mod old_marks;
 mod opening;
 mod probes;
 mod reading;
-mod readings;
 mod refusals;
 mod saving;
 mod steps;

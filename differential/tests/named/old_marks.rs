@@ -2,15 +2,24 @@
 //! before and after are told to the byte in `marked`, which the second implementation is held to as
 //! well; here the judge and the comparison look on, and every buffer stands between guards.
 
-use crate::cases::tests_of;
 use differential::Proved;
 use reference::generate::descent::{self, descent};
 use reference::generate::marked;
 use reference::lent::Lent;
 use reference::trial::{Eyes, Trial};
 
+/// Makes a test of each case of `marked`.
 macro_rules! tests {
-    ($($name:ident)*) => { tests_of!(marked, $($name)*); };
+    ($($name:ident)*) => {
+        $(
+            #[test]
+            fn $name() {
+                for (number, case) in marked::$name().iter().enumerate() {
+                    assert_eq!(case.hold(&Proved, Eyes::Both), Ok(()), "case {number}");
+                }
+            }
+        )*
+    };
 }
 
 reference::every_marked_case!(tests);

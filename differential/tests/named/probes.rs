@@ -2,12 +2,23 @@
 //! the second implementation is held to as well; here the judge and the comparison look on, and every buffer stands between
 //! guards.
 
-use crate::cases::tests_of;
 use crate::client::{Ask, Client, Reply, GREATEST};
+use differential::Proved;
 use reference::generate::probed;
+use reference::trial::Eyes;
 
+/// Makes a test of each case of `probed`.
 macro_rules! tests {
-    ($($name:ident)*) => { tests_of!(probed, $($name)*); };
+    ($($name:ident)*) => {
+        $(
+            #[test]
+            fn $name() {
+                for (number, case) in probed::$name().iter().enumerate() {
+                    assert_eq!(case.hold(&Proved, Eyes::Both), Ok(()), "case {number}");
+                }
+            }
+        )*
+    };
 }
 
 reference::every_probed_case!(tests);
@@ -46,7 +57,7 @@ fn a_body_that_is_not_one_key_is_17() {
 #[test]
 fn the_kinds_next_to_it_and_with_its_low_byte_are_unknown() {
     let mut store = Client::new(16, 4);
-    for kind in [10, 11, 0x0800, 0x0108, 99] {
+    for kind in [9, 10, 0x0800, 0x0108, 99] {
         assert_eq!(store.ask_in_vain(Ask::Odd(kind, 8)), Reply::Not(16), "{kind}");
     }
 }

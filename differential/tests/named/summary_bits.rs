@@ -1,17 +1,27 @@
 //! Summary bits (note 6): where they stand in a row, which they are after each step, and that opening works them out afresh. The
 //! steps of `summed` are told to the byte, and the second implementation is held to them as well.
 
-use crate::cases::tests_of;
 use crate::client::{table, Ask, Client, Reply, GREATEST};
 use crate::opening::{opened, over, ODD_ROW};
 use crate::saving::{linked, saved};
 use crate::tables::{bits, summarize, summary};
-use differential::open;
+use differential::{open, Proved};
 use reference::generate::summed;
 use reference::lent::*;
+use reference::trial::Eyes;
 
+/// Makes a test of each case of `summed`.
 macro_rules! tests {
-    ($($name:ident)*) => { tests_of!(summed, $($name)*); };
+    ($($name:ident)*) => {
+        $(
+            #[test]
+            fn $name() {
+                for (number, case) in summed::$name().iter().enumerate() {
+                    assert_eq!(case.hold(&Proved, Eyes::Both), Ok(()), "case {number}");
+                }
+            }
+        )*
+    };
 }
 
 reference::every_summed_case!(tests);

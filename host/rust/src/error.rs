@@ -150,34 +150,28 @@ impl fmt::Display for Refused {
 #[derive(Clone, Copy, PartialEq, Eq, Debug)]
 pub enum Refusal {
     /// 16: a kind that does not exist.
-    UnknownKind = 16,
+    UnknownKind,
     /// 17: a body whose length is wrong for the kind.
-    WrongBody = 17,
+    WrongBody,
     /// 18: a new key, and the memory table holds 16: flush first.
-    MemoryFull = 18,
+    MemoryFull,
     /// 19: a scan with low above high.
-    WrongRange = 19,
+    WrongRange,
     /// 20: fewer free places than the flush or due merge writes.
-    NoPlace = 20,
-    /// 23: a reading with a line of 2^24 or more, another form than 0 and 1, 2^40 millimetres or more, or kilometres that are below nought,
-    /// above 4,096 or not a number.
-    OutOfRange = 23,
-    /// 24: a reading in kilometres that is the nearest float of no whole millimetre.
-    NoMillimetre = 24,
+    NoPlace,
 }
 
 impl Refusal {
     /// The refusal with this number.
     pub fn of(result: u16) -> Option<Refusal> {
         use Refusal::*;
-        let all =
-            [UnknownKind, WrongBody, MemoryFull, WrongRange, NoPlace, OutOfRange, NoMillimetre];
+        let all = [UnknownKind, WrongBody, MemoryFull, WrongRange, NoPlace];
         all.into_iter().find(|refusal| refusal.number() == result)
     }
 
     /// The order's number.
     pub fn number(self) -> u16 {
-        self as u16
+        16 + self as u16
     }
 
     /// Whether a request of this kind can be refused so.
@@ -188,7 +182,6 @@ impl Refusal {
             Refusal::MemoryFull => matches!(kind, 1 | 2),
             Refusal::WrongRange => kind == 4,
             Refusal::NoPlace => matches!(kind, 5 | 6),
-            Refusal::OutOfRange | Refusal::NoMillimetre => kind == 9,
         }
     }
 }
@@ -201,8 +194,6 @@ impl fmt::Display for Refusal {
             Refusal::MemoryFull => "new key, and the memory table holds 16 entries",
             Refusal::WrongRange => "scan with low above high",
             Refusal::NoPlace => "fewer free places than the flush or merge writes",
-            Refusal::OutOfRange => "line, form or reading out of range",
-            Refusal::NoMillimetre => "no whole millimetre rounds to the reading",
         };
         write!(out, "{}: {words}", self.number())
     }

@@ -51,20 +51,6 @@
 //! # Ok::<(), zilgwern::Error>(())
 //! ```
 //!
-//! Old crawlers report kilometres as a 32-bit float, which stands for several millimetres far out. A reading finds what is under any of
-//! them, sixteen values at once or all:
-//!
-//! ```
-//! use zilgwern::{Key, Reading, Store};
-//!
-//! let mut store = Store::owned(32, 4)?;
-//! store.put(Key::of(12, 99_999_998).unwrap(), b"crack")?;
-//! let page = store.at(12, Reading::Kilometres(100.0))?; // 99,999,997 to 100,000,003 mm
-//! assert_eq!(page.values, [(Key::of(12, 99_999_998).unwrap(), b"crack".to_vec())]);
-//! assert_eq!(store.all_at(12, Reading::Kilometres(100.0)).count(), 1);
-//! # Ok::<(), zilgwern::Error>(())
-//! ```
-//!
 //! Beside the lent memory a call needs stack: `host/zilgwern.h` says how much, and it is less than Rust gives a thread that asks for
 //! no other.
 //!
@@ -81,7 +67,6 @@ mod list;
 mod look_up;
 mod memory;
 mod range;
-mod reading;
 mod reply;
 mod request;
 mod saved;
@@ -95,7 +80,6 @@ pub use list::List;
 pub use look_up::Asked;
 pub use memory::{Memory, Pieces, Row};
 pub use range::Range;
-pub use reading::{Reading, READING_MILLIMETRES};
 pub use reply::{Page, Probe, Reply, Report, Step, Stepped};
 pub use request::Request;
 pub use saved::most_saved_bytes;
@@ -118,7 +102,7 @@ pub const ENTRY_BYTES: usize = 12 + VALUE_BYTES;
 /// The most entries of a table, and of the memory table.
 pub const TABLE_ENTRIES: usize = 16;
 
-/// The most values that one scan, or one reading, gives.
+/// The most values that one scan gives.
 pub const SCAN_VALUES: usize = 16;
 
 /// The longest reply, that of a scan of so many of the longest entries.

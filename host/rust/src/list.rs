@@ -1,7 +1,7 @@
 //! Building request lists that are never broken.
 
 use crate::request::PUT_BODY;
-use crate::{Key, ListError, Reading, Request, LIST_BYTES};
+use crate::{Key, ListError, Request, LIST_BYTES};
 
 /// A list of requests. What is in it can always be split, and no request is refused for its kind or its length.
 ///
@@ -107,10 +107,5 @@ impl List {
     /// Adds a probe: a look-up that also says what it opens.
     pub fn probe(&mut self, key: impl Into<Key>) -> Result<&mut List, ListError> {
         self.add(&Request::Probe(key.into()))
-    }
-
-    /// Adds a reading: the first 16 or fewer values of the line under the millimetres that it stands for.
-    pub fn at(&mut self, line: u32, reading: Reading) -> Result<&mut List, ListError> {
-        self.add(&Request::At(line, reading))
     }
 }

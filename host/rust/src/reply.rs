@@ -1,7 +1,7 @@
 //! Replies as types.
 
 use crate::bytes::{double, pair, take_whole, word};
-use crate::{Key, Refusal, READING_MILLIMETRES, SCAN_VALUES, TABLE_ENTRIES, VALUE_BYTES};
+use crate::{Key, Refusal, SCAN_VALUES, TABLE_ENTRIES, VALUE_BYTES};
 
 /// Bytes of a probe's reply before the value: found, tables, bits.
 pub(crate) const PROBE_COUNTS: usize = 2 + 2 + 4;
@@ -15,7 +15,7 @@ pub enum Reply {
     Value(Vec<u8>),
     /// A look-up found no value.
     NoValue,
-    /// The values of a scan or of a reading.
+    /// The values of a scan.
     Page(Page),
     /// A flush of an empty memory table, or a tidy with no step due.
     NothingToDo,
@@ -29,7 +29,7 @@ pub enum Reply {
     Refused(Refusal),
 }
 
-/// The first 16 or fewer values of a range or a reading, keys rising.
+/// The first 16 or fewer values of a range, keys rising.
 #[derive(Clone, PartialEq, Eq, Default, Debug)]
 pub struct Page {
     /// Each with its key.
@@ -108,7 +108,6 @@ impl Reply {
         match (result, kind, body.len()) {
             (0, 3, 0..=VALUE_BYTES) => Some(Reply::Value(body.to_vec())),
             (0, 4, 4..) => Page::of(body).map(Reply::Page),
-            (0, 9, 4..) => Page::of(body).filter(Page::is_of_reading).map(Reply::Page),
             (0, 6, 4) => Stepped::of(body).map(Reply::Stepped),
             (0, 7, 16) => Some(Reply::Report(Report::of(body))),
             (0, 8, PROBE_COUNTS..) => Probe::of(body).map(Reply::Probe),
@@ -136,14 +135,6 @@ impl Page {
         let full = if more == 0 { 0..=SCAN_VALUES } else { SCAN_VALUES..=SCAN_VALUES };
         let whole = values.len() == usize::from(count) && full.contains(&values.len());
         (more < 2 && whole && short && rising).then_some(Page { values, more: more == 1 })
-    }
-
-    /// Whether the keys, which rise, are on one line and as near to each other as the millimetres of one reading.
-    fn is_of_reading(&self) -> bool {
-        let ends = self.values.first().zip(self.values.last());
-        ends.is_none_or(|((low, _), (high, _))| {
-            low.line() == high.line() && high.0 - low.0 < READING_MILLIMETRES as u64
-        })
     }
 }
 

@@ -1,14 +1,14 @@
 //! Requests as types, and reading them back out of a list's bytes.
 
-use crate::bytes::{double, pair, take_whole, word};
+use crate::bytes::{pair, take_whole, word};
 use crate::reply::PROBE_COUNTS;
-use crate::{Key, Reading, Refusal, Refused, LIST_BYTES, REPLY_BYTES, VALUE_BYTES};
+use crate::{Key, Refusal, Refused, LIST_BYTES, REPLY_BYTES, VALUE_BYTES};
 
 /// The longest body of a put: a key and the longest value.
 pub(crate) const PUT_BODY: usize = 8 + VALUE_BYTES;
 
 /// The kinds that exist.
-pub(crate) const KINDS: std::ops::RangeInclusive<u16> = 1..=9;
+pub(crate) const KINDS: std::ops::RangeInclusive<u16> = 1..=8;
 
 /// A request that is well formed but for the length of a put's value, which [`List`](crate::List) looks at.
 #[derive(Clone, PartialEq, Eq, Debug)]
@@ -29,8 +29,6 @@ pub enum Request {
     Report,
     /// The value under the key is asked for, and what a look-up opens for it.
     Probe(Key),
-    /// The first values of a line, whose number is below 2^24, under the millimetres that the reading stands for.
-    At(u32, Reading),
 }
 
 impl Request {
@@ -45,7 +43,6 @@ impl Request {
             Request::Tidy => 6,
             Request::Report => 7,
             Request::Probe(_) => 8,
-            Request::At(..) => 9,
         }
     }
 
@@ -57,7 +54,6 @@ impl Request {
             }
             Request::Scan(low, high) => [low.0.to_le_bytes(), high.0.to_le_bytes()].concat(),
             Request::Flush | Request::Tidy | Request::Report => Vec::new(),
-            Request::At(line, reading) => [&line.to_le_bytes()[..], &reading.bytes()].concat(),
         }
     }
 
@@ -66,7 +62,7 @@ impl Request {
         6 + match self {
             Request::Put(..) | Request::Delete(_) | Request::Flush => 0,
             Request::LookUp(_) => VALUE_BYTES,
-            Request::Scan(..) | Request::At(..) => REPLY_BYTES - 6,
+            Request::Scan(..) => REPLY_BYTES - 6,
             Request::Tidy => 4,
             Request::Report => 16,
             Request::Probe(_) => PROBE_COUNTS + VALUE_BYTES,
@@ -85,7 +81,6 @@ impl Request {
             (6, 0) => Request::Tidy,
             (7, 0) => Request::Report,
             (8, 8) => Request::Probe(key()),
-            (9, 10 | 14) => Request::At(double(body, 0), Reading::of(pair(body, 4), &body[6..])?),
             (kind, _) if KINDS.contains(&kind) => return Err(Refusal::WrongBody),
             _ => return Err(Refusal::UnknownKind),
         })

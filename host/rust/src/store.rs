@@ -3,8 +3,8 @@
 use crate::bytes::take_whole;
 use crate::memory::Held;
 use crate::view::View;
-use crate::{Error, Key, List, ListError, Memory, Page, Pieces, Probe, Range, Reading};
-use crate::{Refused, Reply, Report, Stepped, ANSWER_ROOM};
+use crate::{Error, Key, List, ListError, Memory, Page, Pieces, Probe, Range, Refused, Reply};
+use crate::{Report, Stepped, ANSWER_ROOM};
 
 /// The most room for answers that is taken at once; longer answers come in several runs.
 const MOST_ROOM: usize = 1 << 18;
@@ -201,51 +201,7 @@ impl<'a> Store<'a> {
     /// # Ok::<(), zilgwern::Error>(())
     /// ```
     pub fn range(&mut self, low: impl Into<Key>, high: impl Into<Key>) -> Range<'_, 'a> {
-        Range::of_keys(self, low.into(), high.into())
-    }
-
-    /// The first 16 or fewer values of a line under the millimetres that a reading stands for ([`Reading::millimetres`]). These can be
-    /// 367, so `more` may be set: [`Store::all_at`] goes on.
-    ///
-    /// ```
-    /// use zilgwern::{Error, Key, Reading, Refusal, Store};
-    ///
-    /// let mut store = Store::owned(16, 4)?;
-    /// let crack = Key::of(12, 99_999_998).unwrap();
-    /// store.put(crack, b"crack")?;
-    /// assert_eq!(store.at(12, Reading::Millimetres(99_999_998))?.values[0].0, crack);
-    /// assert_eq!(store.at(12, Reading::Kilometres(100.0))?.values[0].0, crack);
-    /// assert!(store.at(12, Reading::Kilometres(99.99999))?.values.is_empty());
-    /// let refused = store.at(12, Reading::Kilometres(f32::NAN));
-    /// assert_eq!(refused, Err(Error::Request(Refusal::OutOfRange)));
-    /// # Ok::<(), zilgwern::Error>(())
-    /// ```
-    pub fn at(&mut self, line: u32, reading: Reading) -> Result<Page, Error> {
-        Ok(match self.one(|list| list.at(line, reading))? {
-            Reply::Page(page) => page,
-            _ => Page::default(),
-        })
-    }
-
-    /// All values of a line under the millimetres that a reading stands for, keys rising. Sixteen at a time are asked for.
-    ///
-    /// ```
-    /// use zilgwern::{Key, Reading, Store};
-    ///
-    /// let mut store = Store::owned(32, 4)?;
-    /// for distance in 4_000_000_000..4_000_000_020 {
-    ///     store.put(Key::of(12, distance).unwrap(), b"joint")?;
-    ///     if distance % 16 == 15 {
-    ///         store.flush()?;
-    ///     }
-    /// }
-    /// let reading = Reading::Kilometres(4_000.0); // 3,999,999,878 to 4,000,000,122 mm
-    /// assert!(store.at(12, reading)?.more);
-    /// assert_eq!(store.all_at(12, reading).count(), 20);
-    /// # Ok::<(), zilgwern::Error>(())
-    /// ```
-    pub fn all_at(&mut self, line: u32, reading: Reading) -> Range<'_, 'a> {
-        Range::of_reading(self, line, reading)
+        Range::new(self, low.into(), high.into())
     }
 
     /// Writes the memory table to a place and empties it; false if it is empty already.

@@ -7,7 +7,7 @@ use zilgwern::*;
 
 fn some_request(random: &mut Random) -> Request {
     let key = Key(random.below(1 << 31) << random.below(33));
-    match random.below(9) {
+    match random.below(8) {
         0 => Request::Put(
             key,
             vec![random.below(256) as u8; random.below(VALUE_BYTES as u64 + 1) as usize],
@@ -18,16 +18,7 @@ fn some_request(random: &mut Random) -> Request {
         4 => Request::Flush,
         5 => Request::Tidy,
         6 => Request::Probe(key),
-        7 => Request::At(key.0 as u32, some_reading(random)),
         _ => Request::Report,
-    }
-}
-
-/// Millimetres or kilometres of any bits.
-fn some_reading(random: &mut Random) -> Reading {
-    match random.below(2) {
-        0 => Reading::Millimetres(random.below(1 << 31) << random.below(33)),
-        _ => Reading::Kilometres(f32::from_bits((random.below(1 << 31) << 1) as u32)),
     }
 }
 
@@ -120,7 +111,7 @@ fn bytes_that_are_no_answers_are_told_so() {
     store.put(5, b"value").unwrap();
     let mut list = List::new();
     list.look_up(5).unwrap().scan(0, 9).unwrap().tidy().unwrap().report().unwrap().flush().unwrap();
-    list.probe(5).unwrap().probe(6).unwrap().at(0, Reading::Millimetres(5)).unwrap();
+    list.probe(5).unwrap().probe(6).unwrap();
     let mut answers = vec![0; 10_000];
     let (_, written) = store.run_bytes(list.as_bytes(), &mut answers).unwrap();
     let mut random = Random(4);

@@ -21,15 +21,13 @@ fn example(words: &str) -> Vec<u8> {
 #[test]
 fn requests_are_as_printed() {
     type Add = fn(&mut List) -> Result<&mut List, ListError>;
-    let requests: [(&str, Add); 8] = [
+    let requests: [(&str, Add); 6] = [
         ("put \"A\" under key 5", |list| list.put(5, b"A")),
         ("delete key 5", |list| list.delete(5)),
         ("look up key 5", |list| list.look_up(5)),
         ("scan of all keys", |list| list.scan(Key::LEAST, Key::GREATEST)),
         ("  flush", List::flush),
         ("probe of key 5", |list| list.probe(5)),
-        ("at line 12, 99,999,998 mm", |list| list.at(12, Reading::Millimetres(99_999_998))),
-        ("at line 12, the float 100.0", |list| list.at(12, Reading::Kilometres(100.0))),
     ];
     for (words, add) in requests {
         let mut list = List::new();
@@ -80,20 +78,6 @@ fn replies_are_as_printed() {
     let mut list = List::new();
     list.flush().unwrap().put(3, b"").unwrap().flush().unwrap().tidy().unwrap();
     assert_eq!(answer(&mut store, &list), example("a table moved from level 0"));
-}
-
-#[test]
-fn replies_to_readings_are_as_printed() {
-    let mut store = Store::owned(32, 4).unwrap();
-    let mut said = |reading, words| {
-        assert_eq!(answer(&mut store, List::new().at(12, reading).unwrap()), example(words));
-    };
-    said(Reading::Kilometres(100.0), "at: no values");
-    said(Reading::Kilometres(-1.0), "at: out of range (23)");
-    said(Reading::Kilometres(0.000_001_5), "at: no whole millimetre (24)");
-    store.put(Key::of(12, 99_999_998).unwrap(), b"A").unwrap();
-    let found = answer(&mut store, List::new().at(12, Reading::Kilometres(100.0)).unwrap());
-    assert_eq!(found, example("at: \"A\" at 99,999,998 mm, no more"));
 }
 
 /// Those of the store with a link, and the tables that a look-up asks there.
@@ -179,8 +163,6 @@ fn limits_are_those_of_the_wrapper() {
     assert_eq!(limit("request list"), format!("0 to {} bytes", written(LIST_BYTES)));
     assert_eq!(limit("answer buffer"), format!("{} bytes or more", written(ANSWER_ROOM)));
     assert_eq!(limit("values of one scan"), format!("0 to {SCAN_VALUES}"));
-    let reading = format!("0 to {SCAN_VALUES}; it stands for 1 to {READING_MILLIMETRES} whole");
-    assert_eq!(limit("values of one reading"), format!("{reading} millimetres"));
     let most = written(3 * TABLE_ENTRIES);
     let bits = format!("{} bits; of a live or frozen one 1 to {most} of them set,", Summary::BITS);
     assert!(limit("summary of a card").starts_with(&bits));
@@ -201,7 +183,6 @@ fn the_readme_and_the_header_say_the_same() {
     };
     assert_eq!(defined("VALUE_BYTES "), VALUE_BYTES);
     assert_eq!(defined("SCAN_VALUES "), SCAN_VALUES);
-    assert_eq!(defined("READING_MILLIMETRES "), READING_MILLIMETRES);
     assert_eq!(defined("LIST_BYTES "), LIST_BYTES);
     assert_eq!(defined("ANSWER_ROOM "), ANSWER_ROOM);
     let places = defined("LEAST_PLACES ")..=defined("MOST_PLACES ");
@@ -218,7 +199,7 @@ fn every_refusal_has_its_line() {
     for rule in Rule::ALL {
         assert!(PAGE.contains(&format!("\n| {} | ", rule.letter())), "{rule:?}");
     }
-    for number in (0..=5).chain(16..=24).chain([64, 65]) {
+    for number in (0..=5).chain(16..=20).chain([21, 22, 64, 65]) {
         assert!(PAGE.contains(&format!("\n| {number} | ")), "{number}");
     }
 }

@@ -4,7 +4,6 @@
 use reference::generate::descent::{self, descent};
 use reference::generate::keys::Keys;
 use reference::generate::profile::{Source, DELETING, PROFILES};
-use reference::generate::read_through::read_through;
 use reference::implementation::Ran;
 use reference::judge::{Deed, Judge, Trigger};
 use reference::lent::Lent;
@@ -14,7 +13,6 @@ use std::process::ExitCode;
 const HELP: &str = "\
 Usage: state SEED COUNT [deletes]
        state descent
-       state readings
 
 Serves requests on a new store of 16 places and prints a line each for: threshold, list, answers,
 area, cards, lists, head and memory. Then follows what no answer says: how many merges were due by
@@ -23,8 +21,7 @@ they kept, and how many merges left nothing (marks). A line is a name and number
 them: state, link count, four for each of eight links, and the four words of its summary.
 
 The requests are COUNT random ones, the same for the same SEED; with `deletes` most are deletes of
-few keys. Two lists are always the same. `descent`: delete marks stay on level 1 and go on level 2.
-`readings`: kind 9 in both forms, at the ends of what floats mean, and refused for every reason.";
+few keys. The list `descent` is always the same: delete marks stay on level 1 and go on level 2.";
 
 const PLACES: usize = 16;
 
@@ -37,7 +34,6 @@ const FEW: Keys = Keys::Dense(3);
 fn asked(words: &[&str]) -> Option<(u64, Vec<u8>)> {
     let (seed, count, deletes): (usize, usize, bool) = match *words {
         ["descent"] => return Some((descent::THRESHOLD, descent())),
-        ["readings"] => return Some((descent::THRESHOLD, read_through())),
         [seed, count] => (seed.parse().ok()?, count.parse().ok()?, false),
         [seed, count, "deletes"] => (seed.parse().ok()?, count.parse().ok()?, true),
         _ => return None,

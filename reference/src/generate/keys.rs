@@ -1,7 +1,6 @@
-//! Where keys come from: small sets that repeat, ends of the key range, lines and distances, distances that one float means.
+//! Where keys come from: small sets that repeat, ends of the key range, lines and distances.
 
 use super::random::{mix, Random};
-use crate::limits::{LINES, LINE_MILLIMETRES};
 use crate::table::Key;
 use std::collections::BTreeSet;
 
@@ -16,32 +15,6 @@ pub enum Keys {
     Wide(u64),
     /// Joints of a few lines: line times 2^40 plus distance.
     Survey(u64),
-    /// So many on the first line and the last, close to each other about a few floats, and most of them so far off that many are
-    /// meant by one.
-    Far(u64),
-}
-
-/// The millimetres that some floats mean: 0.0, 100.0, 1,024.0, the last float below 4,096.0, and 4,096.0.
-const MEANT: [(u64, u64); 5] = [
-    (0, 0),
-    (99_999_997, 100_000_003),
-    (1_023_999_970, 1_024_000_061),
-    (4_095_999_634, 4_095_999_877),
-    (4_095_999_878, 4_096_000_244),
-];
-
-/// The key of a number: first the ends of what a float means and what lies beside them, then what lies between.
-fn far(number: u64) -> Key {
-    let line = if number.is_multiple_of(2) { 0 } else { u64::from(LINES - 1) };
-    let (number, (low, high)) = (number / 2 / MEANT.len() as u64, MEANT[number as usize / 2 % 5]);
-    let millimetres = match number {
-        0 => low,
-        1 => high,
-        2 => low.saturating_sub(1),
-        3 => high + 1,
-        _ => low + 7 * number % (high - low + 9),
-    };
-    line * LINE_MILLIMETRES + millimetres
 }
 
 impl Keys {
@@ -61,7 +34,6 @@ impl Keys {
                 let joint = random.word() % bound;
                 ((joint % 7) << 40) + (joint / 7) * 2500
             }
-            Keys::Far(bound) => far(random.word() % bound),
         }
     }
 

@@ -1,7 +1,6 @@
 //! Profiles of use: which requests come how often, over which keys.
 
 use super::keys::Keys;
-use super::locating;
 use super::random::Random;
 use super::requests::{self, Lengths};
 use crate::limits::LIST_BYTES;
@@ -14,7 +13,6 @@ pub struct Profile {
     pub deletes: usize,
     /// Half of them as probes.
     pub look_ups: usize,
-    /// A third of them as readings.
     pub scans: usize,
     pub flushes: usize,
     pub tidies: usize,
@@ -28,8 +26,6 @@ pub struct Profile {
     pub load_deletes: usize,
     /// The most tidies after one load.
     pub load_tidies: usize,
-    /// Readings beside those among the scans.
-    pub readings: usize,
 }
 
 const STEADY: Profile = Profile {
@@ -46,7 +42,6 @@ const STEADY: Profile = Profile {
     load_keys: 1,
     load_deletes: 0,
     load_tidies: 0,
-    readings: 0,
 };
 
 /// Profiles for histories and planted stores.
@@ -73,19 +68,6 @@ pub const DELETING: Profile = Profile {
     load_keys: 16,
     load_deletes: 5,
     load_tidies: 8,
-    ..STEADY
-};
-
-/// Readings above all, of stores that loads fill soon.
-pub const READING: Profile = Profile {
-    name: "reading",
-    scans: 2,
-    look_ups: 10,
-    loads: 12,
-    load_keys: 16,
-    load_deletes: 1,
-    load_tidies: 4,
-    readings: 80,
     ..STEADY
 };
 
@@ -116,7 +98,7 @@ impl Source {
         }
         let profile = self.profile;
         let key = self.keys.draw(&mut self.random);
-        let makers: [(usize, Maker); 10] = [
+        let makers: [(usize, Maker); 9] = [
             (profile.puts, Source::put),
             (profile.deletes, |_, key| requests::delete(key)),
             (profile.look_ups, Source::read),
@@ -126,7 +108,6 @@ impl Source {
             (profile.reports, |_, _| requests::report()),
             (profile.refused, |source, _| requests::refused(&mut source.random)),
             (profile.loads, Source::load),
-            (profile.readings, |source, key| source.reading(key)),
         ];
         let mut ticket = self.random.below(makers.iter().map(|(weight, _)| weight).sum());
         for (weight, maker) in makers {
@@ -166,22 +147,10 @@ impl Source {
         }
     }
 
-    /// A reading near the key, or one that is refused; drawn apart.
-    fn reading(&self, key: u64) -> Vec<u8> {
-        let mut apart = self.random.apart();
-        match apart.once_in(8) {
-            true => locating::refused(&mut apart),
-            false => locating::near(key, &mut apart),
-        }
-    }
-
-    /// A scan from the key: up to another one, over all keys, or over this key alone. A third is readings, which leave all that
-    /// follows as it is.
+    /// A scan from the key: up to another one, over all keys, or over this key alone.
     fn scan(&mut self, key: u64) -> Vec<u8> {
-        let reading = self.reading(key);
         let other = self.keys.draw(&mut self.random);
         match self.random.below(6) {
-            _ if self.random.apart().once_in(3) => reading,
             0 => requests::scan(0, u64::MAX),
             1 => requests::scan(key, key),
             2 => requests::scan(key, u64::MAX),

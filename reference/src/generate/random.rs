@@ -17,11 +17,6 @@ impl Random {
         mix(self.0)
     }
 
-    /// Another generator, for what is drawn apart: this one stays as it is, so that all that it gives later is the same.
-    pub fn apart(&self) -> Random {
-        Random(mix(!self.0))
-    }
-
     /// A number below the bound, which is not zero.
     pub fn below(&mut self, bound: usize) -> usize {
         (self.word() % bound as u64) as usize

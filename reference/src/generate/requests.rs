@@ -1,6 +1,5 @@
 //! Single requests as bytes.
 
-use super::locating;
 use super::random::Random;
 use crate::limits::VALUE_BYTES;
 use crate::table::Key;
@@ -41,21 +40,6 @@ pub fn report() -> Vec<u8> {
 
 pub fn probe(key: Key) -> Vec<u8> {
     request(8, &key.to_le_bytes())
-}
-
-/// A request of kind 9 with any numbers.
-pub fn reading(line: u32, form: u16, reading: &[u8]) -> Vec<u8> {
-    request(9, &[&line.to_le_bytes()[..], &form.to_le_bytes(), reading].concat())
-}
-
-/// A reading of whole millimetres.
-pub fn at_millimetres(line: u32, millimetres: u64) -> Vec<u8> {
-    reading(line, 0, &millimetres.to_le_bytes())
-}
-
-/// A reading of kilometres, the bits of a float.
-pub fn at_kilometres(line: u32, bits: u32) -> Vec<u8> {
-    reading(line, 1, &bits.to_le_bytes())
 }
 
 /// Another key with the same three summary bits. Turning a byte's highest bit changes it by 128 modulo 256; done to bytes 0 and 2,
@@ -100,23 +84,16 @@ pub fn any_value(random: &mut Random) -> Vec<u8> {
     random.bytes(length)
 }
 
-/// A request that is refused with 16, 17, 19, 23 or 24. Readings are drawn apart.
+/// A request that is refused with 16, 17 or 19.
 pub fn refused(random: &mut Random) -> Vec<u8> {
     let key = random.word();
-    let mut apart = random.apart();
     match random.below(4) {
         0 => {
-            let kind = *random.pick(&[0, 10, 11, 99, 256, 265, u16::MAX]);
+            let kind = *random.pick(&[0, 9, 10, 99, 256, 264, u16::MAX]);
             let length = random.below(30);
             request(kind, &random.bytes(length))
         }
-        1 => {
-            let upside_down = scan(key | 1, random.word() % (key | 1));
-            match apart.below(3) {
-                0 => upside_down,
-                _ => locating::refused(&mut apart),
-            }
-        }
+        1 => scan(key | 1, random.word() % (key | 1)),
         _ => {
             let lengths: [(u16, &[usize]); 7] = [
                 (1, &[0, 7, 8 + VALUE_BYTES + 1, 200]),

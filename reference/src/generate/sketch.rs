@@ -15,7 +15,7 @@ pub struct Sketch {
 }
 
 /// Entries from words: `7` is a value under 7, which is the digits; `x7` is a delete mark under 7, `e7` an empty value.
-pub(super) fn entries(words: &str) -> Entries {
+fn entries(words: &str) -> Entries {
     let entry = |word: &str| {
         let digits = word.trim_start_matches(['x', 'e']);
         let key: Key = digits.parse().expect("a key in digits");

@@ -2,7 +2,7 @@
 
 use super::broken::BREAKAGES;
 use super::keys::Keys;
-use super::profile::{Profile, Source, DELETING, PROFILES, READING};
+use super::profile::{Profile, Source, DELETING, PROFILES};
 use super::random::Random;
 use super::requests::{look_up, put, request};
 use crate::limits::LIST_BYTES;
@@ -28,7 +28,6 @@ const BUSY: Profile = Profile {
     load_keys: 12,
     load_deletes: 0,
     load_tidies: 12,
-    readings: 0,
 };
 
 /// The order's own example, an empty list, long lists of every profile, the longest, and refused lists.
@@ -46,8 +45,6 @@ pub fn vectors(seed: u64) -> Vec<Vector> {
         }
     }
     vectors.extend(busy(seed));
-    let readings = Source::new(READING, Keys::Far(400), seed).list(LIST_BYTES);
-    vectors.push(Vector { name: "readings".into(), requests: readings });
     let mut random = Random::new(seed);
     for (number, (_, breakage)) in BREAKAGES.iter().enumerate() {
         vectors.push(Vector { name: format!("refused-{number}"), requests: breakage(&mut random) });

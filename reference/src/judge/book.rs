@@ -4,13 +4,12 @@
 use super::compaction::Deed;
 use super::latest::reply;
 use super::probe::has_bits;
-use super::reading::Asked;
 use super::working::{bytes_of, Rows, Working};
 use super::Served;
 use crate::lent::Lent;
 
 impl Working {
-    /// Compares a reply with what the rules give, done look-ups, scans, probes and readings apart.
+    /// Compares a reply with what the rules give, done look-ups, scans and probes apart.
     pub fn compare_reply(&self, served: &Served, deed: Option<Deed>) -> Result<(), String> {
         let Some((result, body)) = self.expected(served, deed) else {
             return Ok(());
@@ -27,8 +26,7 @@ impl Working {
         let bare = |result| Some((result, Vec::new()));
         let step = |number: u8, level: usize| Some((0, vec![number, 0, level as u8, 0]));
         match (served.kind, deed) {
-            (0 | 10.., _) => bare(16),
-            (9, _) => Asked::of(served.body).err().and_then(|(number, _)| bare(number)),
+            (0 | 9.., _) => bare(16),
             (kind, _) if !Working::well_formed(kind, served.body) => bare(17),
             (4, _) if upside_down(served.body) => bare(19),
             (3 | 4 | 8, _) => None,

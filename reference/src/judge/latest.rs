@@ -1,6 +1,5 @@
 //! The latest-write map of demand 3: fed with requests and results, and asked for whole replies.
 
-use super::reading::Asked;
 use super::Served;
 use std::collections::BTreeMap;
 
@@ -11,8 +10,8 @@ pub struct LatestWrites {
 }
 
 impl LatestWrites {
-    /// Takes in one served request; for look-ups, scans and readings the reply is compared whole, for kind 8 all but the tables
-    /// opened and their bits, which the working knows.
+    /// Takes in one served request; for look-ups and scans the reply is compared whole, for kind 8 all but the tables opened and
+    /// their bits, which the working knows.
     /// Says whether an earlier value was overwritten or taken away.
     pub fn judge(&mut self, served: &Served) -> Result<bool, String> {
         let done = served.result() == Some(0);
@@ -22,7 +21,6 @@ impl LatestWrites {
             3 if served.body.len() == 8 => self.compare_look_up(served).map(|()| false),
             4 if served.body.len() == 16 => self.compare_scan(served).map(|()| false),
             8 if served.body.len() == 8 => self.compare_probe(served).map(|()| false),
-            9 => self.compare_reading(served).map(|()| false),
             _ => Ok(false),
         }
     }
@@ -63,31 +61,20 @@ impl LatestWrites {
         if low > high {
             return Ok(());
         }
-        let found = found(self.values.range(low..=high));
-        compare(served, &reply(4, 0, &found), &format!("scan from {low} to {high}"))
+        let mut in_range = self.values.range(low..=high);
+        let mut entries = Vec::new();
+        let mut count = 0u16;
+        for (key, value) in in_range.by_ref().take(16) {
+            count += 1;
+            entries.extend((12 + value.len() as u16).to_le_bytes());
+            entries.extend([1, 0]);
+            entries.extend(key.to_le_bytes());
+            entries.extend(value);
+        }
+        let more = u16::from(in_range.next().is_some());
+        let body = [&count.to_le_bytes()[..], &more.to_le_bytes(), &entries].concat();
+        compare(served, &reply(4, 0, &body), &format!("scan from {low} to {high}"))
     }
-
-    /// Like a scan that finds those keys of the line that the reading means. One that is refused is not measured by the map.
-    fn compare_reading(&self, served: &Served) -> Result<(), String> {
-        let Ok(asked) = Asked::of(served.body) else { return Ok(()) };
-        let meant = self.values.range(asked.line()).filter(|(key, _)| asked.means(**key));
-        compare(served, &reply(9, 0, &found(meant)), &format!("reading {asked:?}"))
-    }
-}
-
-/// The body of a scan's reply that finds these: count, more, and the first sixteen as entries.
-fn found<'a>(mut values: impl Iterator<Item = (&'a u64, &'a Vec<u8>)>) -> Vec<u8> {
-    let mut entries = Vec::new();
-    let mut count = 0u16;
-    for (key, value) in values.by_ref().take(16) {
-        count += 1;
-        entries.extend((12 + value.len() as u16).to_le_bytes());
-        entries.extend([1, 0]);
-        entries.extend(key.to_le_bytes());
-        entries.extend(value);
-    }
-    let more = u16::from(values.next().is_some());
-    [&count.to_le_bytes()[..], &more.to_le_bytes(), &entries].concat()
 }
 
 fn key(body: &[u8], at: usize) -> Result<u64, String> {

@@ -1,4 +1,4 @@
-//! Names for what tidies, probes and readings met on the way, for counting what a test run reached; each tells two
+//! Names for what tidies and probes met on the way, for counting what a test run reached; each tells two
 //! readings of a rule apart.
 
 // Which merges are due.
@@ -53,56 +53,6 @@ pub const NONE_OPENED: &str = "probe that opens none of the tables asked";
 pub const ALL_IN_VAIN: &str = "probe that opens tables and meets no entry";
 pub const SEVERAL_OPENED: &str = "probe that opens three tables or more";
 pub const OUTSIDE_SPANS: &str = "probe of a key in no span of a level that has tables";
-
-// What a reading asks for.
-pub const LENGTH_OF_NO_FORM: &str = "17: a reading of neither 10 nor 14 bytes";
-pub const SHORT_MILLIMETRES: &str = "17: millimetres in 10 bytes";
-pub const LONG_FLOAT: &str = "17: a float in 14 bytes";
-pub const LENGTH_AND_LINE: &str = "17: such a length, and a line of 2^24 or more";
-pub const NO_SUCH_FORM: &str = "23: a form that is neither 0 nor 1";
-pub const NO_SUCH_LINE: &str = "23: a line of 2^24 or more";
-pub const NO_SUCH_LINE_NOR_DISTANCE: &str = "23: such a line, with a float of no millimetre";
-pub const TOO_MANY_MILLIMETRES: &str = "23: millimetres of 2^40 or more";
-pub const NOT_A_NUMBER: &str = "23: a float that is not a number";
-pub const BELOW_NOUGHT: &str = "23: a float below nought";
-pub const TOO_FAR: &str = "23: a float above 4,096";
-pub const NO_MILLIMETRE: &str = "24: a float of no millimetre";
-pub const VALUE_AT: &str = "millimetres with a value";
-pub const NO_VALUE_AT: &str = "millimetres without a value";
-pub const FLOAT_OF_NONE: &str = "float without a value";
-pub const FLOAT_OF_ONE: &str = "float with one value";
-pub const FLOAT_OF_SEVERAL: &str = "float with 2 to 16 values";
-pub const FLOAT_OF_MORE: &str = "float with more than 16 values";
-pub const WIDE_FLOAT: &str = "float of several millimetres with a value";
-pub const POWER_OF_TWO: &str = "float with a value that is a power of two";
-pub const ZERO: &str = "the float 0.0";
-pub const MINUS_ZERO: &str = "the float -0.0";
-pub const FARTHEST: &str = "the float 4,096.0";
-
-/// Those of readings that any profile comes to, over any keys.
-pub const OF_READINGS: [&str; 17] = [
-    LENGTH_OF_NO_FORM,
-    SHORT_MILLIMETRES,
-    LONG_FLOAT,
-    LENGTH_AND_LINE,
-    NO_SUCH_FORM,
-    NO_SUCH_LINE,
-    NO_SUCH_LINE_NOR_DISTANCE,
-    TOO_MANY_MILLIMETRES,
-    NOT_A_NUMBER,
-    BELOW_NOUGHT,
-    TOO_FAR,
-    NO_MILLIMETRE,
-    VALUE_AT,
-    NO_VALUE_AT,
-    FLOAT_OF_NONE,
-    ZERO,
-    MINUS_ZERO,
-];
-
-/// Those that ask for keys far off on a line and close together.
-pub const OF_FAR_READINGS: [&str; 6] =
-    [FLOAT_OF_ONE, FLOAT_OF_SEVERAL, FLOAT_OF_MORE, WIDE_FLOAT, POWER_OF_TWO, FARTHEST];
 
 /// Those of probes.
 pub const OF_PROBES: [&str; 23] = [
@@ -159,8 +109,7 @@ pub const OF_TIDIES: [&str; 16] = [
     STAYS_BY_LAST,
 ];
 
-/// All of them but for `DEEP`, which asks for large stores, and for `OF_FAR_READINGS`.
+/// All of them but for `DEEP`, which asks for large stores.
 pub fn all() -> impl Iterator<Item = &'static str> {
-    let of_steps = OF_TIDIES.into_iter().chain(OF_LEVELS.into_iter().flatten());
-    of_steps.chain(OF_PROBES).chain(OF_READINGS)
+    OF_TIDIES.into_iter().chain(OF_LEVELS.into_iter().flatten()).chain(OF_PROBES)
 }

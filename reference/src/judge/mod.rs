@@ -9,7 +9,6 @@ mod latest;
 mod marks;
 pub mod met;
 mod probe;
-pub mod reading;
 mod working;
 
 pub use compaction::Deed;
@@ -46,7 +45,7 @@ pub struct Followed<'a> {
     /// Whether a put or delete took the place of an earlier value.
     pub replaced: bool,
     pub deed: Option<Deed>,
-    /// What a tidy, a probe or a reading met; see `met`.
+    /// What a tidy or a probe met; see `met`.
     pub met: Vec<&'static str>,
 }
 
@@ -105,8 +104,7 @@ impl Judge {
             if self.whole_book {
                 self.working.compare_reply(&served, deed)?;
             }
-            let mut met = std::mem::take(&mut self.working.met);
-            met.extend(reading::met(&served));
+            let met = std::mem::take(&mut self.working.met);
             followed.push(Followed { served, replaced, deed, met });
         }
         self.working.compare(after)?;

@@ -101,7 +101,7 @@ impl Working {
         hanging
     }
 
-    /// Whether the body's length fits the kind, which is one of the first eight.
+    /// Whether the body's length fits the kind, which is one of the eight.
     pub(super) fn well_formed(kind: u16, body: &[u8]) -> bool {
         match kind {
             1 => (8..=8 + VALUE_BYTES).contains(&body.len()),

@@ -4,7 +4,6 @@
 use crate::build::{hex, new_lent, serve};
 use crate::common::announce;
 use crate::damage::planted_lent;
-use crate::named::{shows, tests_of};
 use reference::generate::probed;
 use reference::generate::probes::Probes;
 use reference::generate::random::Random;
@@ -22,6 +21,22 @@ use reference::table::{Entry, Key};
 use reference::trial::Eyes;
 
 const SUBJECT: Reference = Reference { slip: None };
+
+/// Makes a test of each case of a module, and a list of all by name.
+macro_rules! tests_of {
+    ($list:ident, $module:ident, $cases:ty, $($name:ident)*) => {
+        $(
+            #[test]
+            fn $name() {
+                for (number, case) in $module::$name().iter().enumerate() {
+                    assert_eq!(case.hold(&SUBJECT, Eyes::WholeBook), Ok(()), "case {number}");
+                }
+            }
+        )*
+
+        const $list: &[Named<$cases>] = &[$((stringify!($name), $module::$name)),*];
+    };
+}
 
 macro_rules! probed_tests {
     ($($name:ident)*) => { tests_of!(PROBED, probed, Probes, $($name)*); };
@@ -59,6 +74,26 @@ const IN_STEPS: [Slip; 5] = [
     Slip::FrozenCardLosesBits,
     Slip::MovedCardLosesBits,
 ];
+
+/// Cases by the name of the function that gives them.
+type Named<C> = (&'static str, fn() -> Vec<C>);
+
+/// Fails unless each slip shows in a case by name, and each case fails with some slip.
+fn shows<C>(slips: &[Slip], list: &[Named<C>], holds: impl Fn(&C, &Reference) -> bool) {
+    let fails = |slip: Slip, cases: &[C]| {
+        let subject = Reference { slip: Some(slip) };
+        cases.iter().any(|case| !holds(case, &subject))
+    };
+    for slip in slips {
+        let names = list.iter().filter(|(_, cases)| fails(*slip, &cases())).count();
+        announce(&format!("{slip:?} shows in {names} of {} cases", list.len()));
+        assert!(names > 0, "{slip:?} shows in none");
+    }
+    for (name, cases) in list {
+        let cases = cases();
+        assert!(slips.iter().any(|slip| fails(*slip, &cases)), "{name} holds with every slip");
+    }
+}
 
 #[test]
 fn every_slip_in_probes_shows_in_a_case_by_name_and_every_case_shows_one() {

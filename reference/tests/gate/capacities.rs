@@ -1,7 +1,7 @@
 //! Capacities without a list (note 7): the three that document 01 lists, cases by name of which level a tidy relieves, and which slips
 //! show in them.
 
-use crate::named::{shows, tests_of};
+use crate::common::announce;
 use reference::generate::relieved;
 use reference::generate::sketch::Case;
 use reference::implementation::Reference;
@@ -9,8 +9,21 @@ use reference::limits::capacity;
 use reference::slip::Slip;
 use reference::trial::Eyes;
 
+/// Makes a test of each case of `relieved`, and a list of all by name.
 macro_rules! tests {
-    ($($name:ident)*) => { tests_of!(CASES, relieved, Case, $($name)*); };
+    ($($name:ident)*) => {
+        $(
+            #[test]
+            fn $name() {
+                for (number, case) in relieved::$name().iter().enumerate() {
+                    let held = case.hold(&Reference::default(), Eyes::WholeBook);
+                    assert_eq!(held, Ok(()), "case {number}");
+                }
+            }
+        )*
+
+        const CASES: &[(&str, fn() -> Vec<Case>)] = &[$((stringify!($name), relieved::$name)),*];
+    };
 }
 
 reference::every_relieved_case!(tests);
@@ -36,7 +49,22 @@ const IN_CAPACITIES: [Slip; 6] = [
     Slip::TiesToHigherLevel,
 ];
 
+/// The names of the functions that give a case which does not hold with a slip.
+fn shows_in(slip: Slip) -> Vec<&'static str> {
+    let subject = Reference { slip: Some(slip) };
+    let fails = |case: &Case| case.hold(&subject, Eyes::Comparison).is_err();
+    CASES.iter().filter(|(_, cases)| cases().iter().any(fails)).map(|(name, _)| *name).collect()
+}
+
 #[test]
 fn every_slip_in_capacities_shows_in_a_case_by_name_and_every_case_fails_with_one() {
-    shows(&IN_CAPACITIES, CASES, |case, subject| case.hold(subject, Eyes::Comparison).is_ok());
+    let mut shown = Vec::new();
+    for slip in IN_CAPACITIES {
+        let names = shows_in(slip);
+        announce(&format!("{slip:?} shows in {} of {} cases", names.len(), CASES.len()));
+        assert!(!names.is_empty(), "{slip:?} shows in none");
+        shown.extend(names);
+    }
+    let without = CASES.iter().find(|(name, _)| !shown.contains(name));
+    assert_eq!(without.map(|(name, _)| *name), None, "holds with every slip");
 }

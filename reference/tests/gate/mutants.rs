@@ -7,7 +7,7 @@ use reference::generate::keys::Keys;
 use reference::generate::opening::Opening;
 use reference::generate::plan::Plan;
 use reference::generate::planted::{planted, planted_with_marks};
-use reference::generate::profile::{Source, DELETING, PROFILES, READING};
+use reference::generate::profile::{Source, DELETING, PROFILES};
 use reference::generate::random::Random;
 use reference::generate::relieved;
 use reference::generate::requests::report;
@@ -37,12 +37,6 @@ const UNSEEN_BY_JUDGE: &[(Slip, &str)] = &[
     (Slip::OpenWritesBeforeCheck, "demand 3 does not measure openings that are refused"),
     (Slip::SavedListCountAnyPlaces, "demand 3 does not measure openings that are refused"),
     (Slip::SaveJudgesRoomFirst, "demand 3 does not measure savings that are refused"),
-    (Slip::LineJudgedLast, "demand 3 does not measure readings that are refused"),
-    (Slip::FormOfOneByte, "demand 3 does not measure readings that are refused"),
-    (Slip::FloatsOutOfRangeAre24, "demand 3 does not measure readings that are refused"),
-    (Slip::NothingFoundFor24, "demand 3 does not measure readings that are refused"),
-    (Slip::EitherLengthTaken, "demand 3 does not measure readings that are refused"),
-    (Slip::LineBeforeLength, "demand 3 does not measure readings that are refused"),
     (
         Slip::CursorAtTakenPlace,
         "the place just taken is not free, so the next one taken is the same",
@@ -115,12 +109,6 @@ fn history(subject: &Reference, eyes: Eyes, number: u64) -> (Trial<'_>, Source, 
     if number % 50 == 28 {
         let trial = Trial::of_sound_store(subject, eyes, relieved::deep());
         return (trial, Source::new(PROFILES[4], keys, number), 24);
-    }
-    if number % 50 == 38 {
-        let far = Keys::Far(300);
-        let trial =
-            Trial::of_sound_store(subject, eyes, planted(&mut random, places, far).encode());
-        return (trial, Source::new(READING, far, number), 24);
     }
     if number % 10 == 9 {
         let threshold = 1 + number / 10 % 8;
@@ -283,5 +271,24 @@ fn slips_in_savings_and_openings_are_caught_by_comparison_and_plan() {
         let words = found.map(|number| format!("{:>12}", number.map_or(-1, |it| it as i64)));
         announce(&format!("{:<40}{}", format!("{slip:?}"), words.concat()));
         assert!(found.iter().all(Option::is_some), "{slip:?} is not caught");
+    }
+}
+
+/// All source files of the store's code, as one text.
+fn sources() -> String {
+    let directory = std::path::Path::new(env!("CARGO_MANIFEST_DIR")).join("src");
+    let files = std::fs::read_dir(directory).expect("the sources are there");
+    let paths = files.map(|file| file.expect("a file can be named").path());
+    let rust = paths.filter(|path| path.extension().is_some_and(|end| end == "rs"));
+    rust.map(|path| std::fs::read_to_string(path).expect("a source can be read")).collect()
+}
+
+#[test]
+fn every_slip_is_consulted_in_one_place() {
+    let sources = sources();
+    for slip in Slip::ALL {
+        let name = format!("Slip::{slip:?}");
+        let ends = |rest: &&str| !rest.starts_with(|next: char| next.is_alphanumeric());
+        assert_eq!(sources.split(&name).skip(1).filter(ends).count(), 1, "{name}");
     }
 }

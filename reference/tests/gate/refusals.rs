@@ -127,12 +127,7 @@ fn numbers_16_and_17_in_this_order() {
     for length in [0, 7, 9, 16] {
         assert_eq!(refusal(&lent, request(8, &vec![0; length])), hex("06 00 08 00 11 00"));
     }
-    for length in [0, 6, 9, 11, 13, 15] {
-        assert_eq!(refusal(&lent, request(9, &vec![0; length])), hex("06 00 09 00 11 00"));
-    }
-    for length in [0, 8, 10, 14] {
-        assert_eq!(refusal(&lent, request(10, &vec![0; length])), hex("06 00 0A 00 10 00"));
-    }
+    assert_eq!(refusal(&lent, request(9, &[0; 8])), hex("06 00 09 00 10 00"));
 }
 
 #[test]

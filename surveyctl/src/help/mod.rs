@@ -26,7 +26,6 @@ On the store, also as lines of a script or at the prompt:
   tidy all             steps until there is nothing to do
   report               counts of places, tables, links, memory entries
   probe KEY            the value under a key, and which tables are opened for it
-  at LINE READING      all values where a crawler's reading may be on a line
   check                whether the store is sound, or its first broken rule
   show                 what stands where, as a picture
 
@@ -58,8 +57,6 @@ KEY is a line and metres with a point (12 3.450), a whole number
     (13194139536762, 0xC0000000D7A), `first` or `last`.
 RANGE is nothing (all keys), KEY KEY, LINE METRES METRES (12 3.000 4.000), or
     `line LINE`; both ends are included.
-READING is metres with a point (3.450), or kilometres as old crawlers report
-    them (100.0km), which stand for each millimetre nearest to that float.
 VALUE is text to the end of the line, text between double quotes, or
     hex:DIGITS; at most {VALUE_BYTES} bytes.
 

@@ -1,6 +1,6 @@
 //! More on each command.
 
-pub const TOPICS: [(&str, &str); 22] = [
+pub const TOPICS: [(&str, &str); 21] = [
     (
         "put",
         "\
@@ -105,27 +105,6 @@ does not hold the key is opened in vain. Memory is no table; where it decides,
 none is asked. The exit status is 0 whether there is a value or not.
 
   probe 12 3.450
-",
-    ),
-    (
-        "at",
-        "\
-at LINE READING
-
-Prints all values of a line at a crawler's reading, sixteen at a time asked of
-the store. Metres with a point are taken to the millimetre. Kilometres before
-`km` are those of old crawlers: the number is taken as the 32-bit float nearest
-to it, and stands for every whole millimetre that rounds to this float, seven
-of them at 100 km, 245 at 4,000. The last line says which. A float can also be
-given by its bits, bits: and eight hexadecimal digits.
-
-In `encode` it is one request, which gives the first 16. Refused by 23 where
-line or metres are too great, or kilometres are below nought, above 4,096 or
-not a number; by 24 where no whole millimetre rounds to the float.
-
-  at 12 99999.998
-  at 12 100.0km
-  at 12 bits:42C80000
 ",
     ),
     (
@@ -276,8 +255,8 @@ surveyctl decode [--hex] answers [FILE]
 
 Prints a binary list as commands, which `encode` makes into the same list
 again, or the answers of the program `survey` in words. Requests that the store
-will refuse for their kind, length or form become comments. With --hex the
-input is hexadecimal.
+will refuse for their kind or length become comments. With --hex the input is
+hexadecimal.
 ",
     ),
     (

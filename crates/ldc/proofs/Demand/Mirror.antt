@@ -1,32 +1,28 @@
 -- The store mirrors the latest-write map: every key has the map's value. So the store's contents, in one rising list, are the map, and look-ups,
--- probes, scans and readings answer as it does.
+-- probes and scans answer as it does.
 use Prim.Native.Nat.{ℕ, ◌^◌}
 use mathlib.Core.Path.{◌≡◌, refl, sym, ◌∙◌, ap}
 use mathlib.Core.List.{List, [], ◌∷◌}
 use mathlib.Core.Bool.{Bool, true, false, ◌&&◌}
 use mathlib.Core.Option.{Option, some, none}
 use native.Mathlib.Omega.{arith}
-use borrow.Author.Tests.{eqb-true, eq-eqb, le-leb, lt-leb, ltb-true, ltb-false, le-ltb}
+use borrow.Author.Tests.{eqb-true, eq-eqb, le-leb, lt-leb, ltb-true, ltb-false}
 use lib.Dec.{leb, ltb, eqb}
 use lib.ListN.{length}
 use Rattle.coding.specs.Number.{bytes_of}
 use Rattle.table.specs.Entry.{Entry}
 use Rattle.table.specs.Search.{find}
 use Rattle.table.specs.Valid.{Keys}
-use Rattle.reading.specs.declared.body.KeyRange.{KeyRange}
-use Rattle.reading.specs.declared.body.KeyRange.TheVariants.{Between, OutOfRange, NoMillimetre}
-use Rattle.reading.specs.Body.{length_good, keys_in}
-use Rattle.reading.proofs.Ends.{keys-ends}
 use Rattle.ldc.specs.Lists.{all, keep, flat, is_some}
 use Rattle.ldc.specs.Store.{Store, within}
 use Rattle.ldc.specs.Request.{Request, known, body_good, key_in, high_in, value_in, only, reply_bytes, reply_of}
 use Rattle.ldc.specs.Memtable.{put, serve_put}
 use Rattle.ldc.specs.Place.{serve_flush}
-use Rattle.ldc.specs.Read.{read_order, gather, holds_value, value_of, contents, look_up, look_up_served, serve_look_up, scan_body, serve_scan, serve_report, scan_keys, serve_reading}
+use Rattle.ldc.specs.Read.{read_order, gather, holds_value, value_of, contents, look_up, look_up_served, serve_look_up, scan_body, serve_scan, serve_report}
 use Rattle.ldc.specs.Probe.{opened, bits_in, probe_body, serve_probe}
 use Rattle.ldc.specs.Steps.{serve_tidy}
 use Rattle.ldc.specs.Serve.{serve}
-use Rattle.ldc.specs.History.{without_counts, compared, map_look_up, map_probe, map_reply, Agrees, map_reading}
+use Rattle.ldc.specs.History.{without_counts, compared, map_look_up, map_probe, map_reply, Agrees}
 use Rattle.ldc.proofs.Basics.Cases.{cases, clash, both_left, both_right}
 use Rattle.ldc.proofs.Entries.Finds.{find-gather}
 use Rattle.ldc.proofs.Entries.Keys.{passing, find-keep, keys-gather, keys-keep, keys-ext}
@@ -98,15 +94,15 @@ module _ (s : Store) (S : Sound s) (m : List Entry) (M : Mirrors s m) where
   module _ (r : Request) where
     -- the map says nothing of other requests
     silent : (b : List ℕ) → (eqb r.kind 3 && eqb (length r.body) 8) ≡ false → (eqb r.kind 8 && eqb (length r.body) 8) ≡ false
-        → (eqb r.kind 4 && eqb (length r.body) 16) ≡ false → (eqb r.kind 9 && length_good r.body) ≡ false → Agrees (map_reply m r) b
+        → (eqb r.kind 4 && eqb (length r.body) 16) ≡ false → Agrees (map_reply m r) b
     unfolding map_reply
-    silent b no3 no8 no4 no9 =
+    silent b no3 no8 no4 =
         let z : (eqb r.kind 4 && (eqb (length r.body) 16 && leb (key_in r.body) (high_in r.body))) ≡ false =
         three-false (eqb r.kind 4) (eqb (length r.body) 16) (leb (key_in r.body) (high_in r.body)) no4 in
-        rw (no3, no8, z, no9) tt
+        rw (no3, no8, z) tt
 
-    other-kind : (b : List ℕ) (n : ℕ) → r.kind ≡ n → eqb n 3 ≡ false → eqb n 8 ≡ false → eqb n 4 ≡ false → eqb n 9 ≡ false → Agrees (map_reply m r) b
-    other-kind b n e no3 no8 no4 no9 = silent b (rw (e, no3)) (rw (e, no8)) (rw (e, no4)) (rw (e, no9))
+    other-kind : (b : List ℕ) (n : ℕ) → r.kind ≡ n → eqb n 3 ≡ false → eqb n 8 ≡ false → eqb n 4 ≡ false → Agrees (map_reply m r) b
+    other-kind b n e no3 no8 no4 = silent b (rw (e, no3)) (rw (e, no8)) (rw (e, no4))
 
     silent-unknown : (b : List ℕ) → known r.kind ≡ false → Agrees (map_reply m r) b
     unfolding known
@@ -115,16 +111,14 @@ module _ (s : Store) (S : Sound s) (m : List Entry) (M : Mirrors s m) where
         (cases (eqb r.kind 3) (λ q. let e : r.kind ≡ 3 = eqb-true r.kind 3 q in clash (rw e) k) (λ q. rw q))
         (cases (eqb r.kind 8) (λ q. let e : r.kind ≡ 8 = eqb-true r.kind 8 q in clash (rw e) k) (λ q. rw q))
         (cases (eqb r.kind 4) (λ q. let e : r.kind ≡ 4 = eqb-true r.kind 4 q in clash (rw e) k) (λ q. rw q))
-        (cases (eqb r.kind 9) (λ q. let e : r.kind ≡ 9 = eqb-true r.kind 9 q in clash (rw e) k) (λ q. rw q))
 
-    silent-misfit : (b : List ℕ) → body_good r.kind r.body ≡ false → Agrees (map_reply m r) b
+    silent-misfit : (b : List ℕ) → body_good r.kind (length r.body) ≡ false → Agrees (map_reply m r) b
     unfolding body_good
     silent-misfit b k =
         silent b
         (cases (eqb r.kind 3) (λ q. let e : r.kind ≡ 3 = eqb-true r.kind 3 q in rw e (rw e at k)) (λ q. rw q))
         (cases (eqb r.kind 8) (λ q. let e : r.kind ≡ 8 = eqb-true r.kind 8 q in rw e (rw e at k)) (λ q. rw q))
         (cases (eqb r.kind 4) (λ q. let e : r.kind ≡ 4 = eqb-true r.kind 4 q in rw e (rw e at k)) (λ q. rw q))
-        (cases (eqb r.kind 9) (λ q. let e : r.kind ≡ 9 = eqb-true r.kind 9 q in rw e (rw e at k)) (λ q. rw q))
 
     look-agrees : r.kind ≡ 3 → length r.body ≡ 8 → Agrees (map_reply m r) (compared r (reply_of r (serve_look_up s (key_in r.body))))
     unfolding map_reply serve_look_up reply_of look_up compared
@@ -156,30 +150,16 @@ module _ (s : Store) (S : Sound s) (m : List Entry) (M : Mirrors s m) where
         (λ q. let z : leb (key_in r.body) (high_in r.body) ≡ true = le-leb (key_in r.body) (high_in r.body) (ltb-false (high_in r.body) (key_in r.body) q) in
         rw (k, eq-eqb (length r.body) 16 n, z, q) (ap (λ (es : List Entry). reply_bytes 4 0 (scan_body (within (key_in r.body) (high_in r.body) es))) mirror-contents))
 
-    -- its keys are the right way up, so that the scan is not refused
-    keys-agree : (k : KeyRange) → keys_in r.body ≡ k → Agrees (map_reading m k) (reply_bytes 9 (scan_keys s k).result (scan_keys s k).body)
-    unfolding serve_scan
-    keys-agree (Between low high) e =
-        rw (le-ltb high.value low.value (keys-ends r.body low high e).0)
-        (ap (λ (es : List Entry). reply_bytes 9 0 (scan_body (within low.value high.value es))) mirror-contents)
-    keys-agree OutOfRange e = tt
-    keys-agree NoMillimetre e = tt
-
-    reading-agrees : r.kind ≡ 9 → length_good r.body ≡ true → Agrees (map_reply m r) (compared r (reply_of r (serve_reading s r.body)))
-    unfolding map_reply serve_reading reply_of compared
-    reading-agrees k n = rw (k, n) (keys-agree (keys_in r.body) refl)
-
     pub mirror-answers : Agrees (map_reply m r) (compared r (reply_of r (serve s r)))
     mirror-answers = serve-cases s r (λ v. Agrees (map_reply m r) (compared r (reply_of r v))) (record {
       unknown = λ k. silent-unknown (compared r (reply_of r (only 16 s))) k;
       misfit = λ k b. silent-misfit (compared r (reply_of r (only 17 s))) b;
-      put = λ k lo hi. other-kind (compared r (reply_of r (serve_put s (record { key = key_in r.body; value = some (value_in r.body) })))) 1 k refl refl refl refl;
-      delete = λ k n. other-kind (compared r (reply_of r (serve_put s (record { key = key_in r.body; value = none })))) 2 k refl refl refl refl;
+      put = λ k lo hi. other-kind (compared r (reply_of r (serve_put s (record { key = key_in r.body; value = some (value_in r.body) })))) 1 k refl refl refl;
+      delete = λ k n. other-kind (compared r (reply_of r (serve_put s (record { key = key_in r.body; value = none })))) 2 k refl refl refl;
       look = look-agrees;
       scan = scan-agrees;
-      flush = λ k n. other-kind (compared r (reply_of r (serve_flush s))) 5 k refl refl refl refl;
-      tidy = λ k n. other-kind (compared r (reply_of r (serve_tidy s))) 6 k refl refl refl refl;
+      flush = λ k n. other-kind (compared r (reply_of r (serve_flush s))) 5 k refl refl refl;
+      tidy = λ k n. other-kind (compared r (reply_of r (serve_tidy s))) 6 k refl refl refl;
       probe = probe-agrees;
-      reading = reading-agrees;
-      report = λ k n. other-kind (compared r (reply_of r (serve_report s))) 7 k refl refl refl refl;
+      report = λ k n. other-kind (compared r (reply_of r (serve_report s))) 7 k refl refl refl;
     })

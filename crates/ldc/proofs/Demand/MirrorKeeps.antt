@@ -16,7 +16,7 @@ use Rattle.ldc.specs.Store.{Store, card, links, bytes_at, level, table, slice, s
 use Rattle.ldc.specs.Request.{Request, Served, key_in, high_in, value_in, only, reply_of}
 use Rattle.ldc.specs.Memtable.{put, serve_put}
 use Rattle.ldc.specs.Place.{free_places, serve_flush}
-use Rattle.ldc.specs.Read.{read_order, holds_value, value_of, look_up, serve_look_up, serve_scan, serve_report, serve_reading}
+use Rattle.ldc.specs.Read.{read_order, holds_value, value_of, look_up, serve_look_up, serve_scan, serve_report}
 use Rattle.ldc.specs.Probe.{serve_probe}
 use Rattle.ldc.specs.Tidy.{Step, idle, refused, moved, linked, merged, tidy_step}
 use Rattle.ldc.specs.Steps.{step_served, serve_tidy}
@@ -25,7 +25,7 @@ use Rattle.ldc.specs.History.{fed}
 use Rattle.ldc.proofs.Basics.Cases.{cases, maybe, both, both_left, both_right}
 use Rattle.ldc.proofs.Entries.Finds.{or_else, find-append, find-put}
 use Rattle.ldc.proofs.Steps.Flush.{view-flush}
-use Rattle.ldc.proofs.Serving.Keeps.{some-length, look-store, key_fits, scan-store, reading-store}
+use Rattle.ldc.proofs.Serving.Keeps.{some-length, look-store, key_fits}
 use Rattle.ldc.proofs.Entries.Keys.{find-keep, keys-put, keys-keep}
 use Rattle.ldc.proofs.Steps.LinkView.{view-link}
 use Rattle.ldc.proofs.Steps.MergeView.{view-merge}
@@ -200,11 +200,11 @@ module _ (s : Store) (S : Sound s) (m : List Entry) (M : Mirrors s m) (r : Reque
     put = λ k lo hi. put-fed k;
     delete = λ k n. delete-fed k;
     look = λ k n. kind-fed (serve_look_up s (key_in r.body)) 3 k refl refl (λ x. unfold serve_look_up in rw (look-store s (look_up s (key_in r.body))));
-    scan = λ k n. kind-fed (serve_scan s (key_in r.body) (high_in r.body)) 4 k refl refl (λ x. rw (scan-store s (key_in r.body) (high_in r.body)));
+    scan = λ k n. kind-fed (serve_scan s (key_in r.body) (high_in r.body)) 4 k refl refl
+        (λ x. unfold serve_scan in cases (ltb (high_in r.body) (key_in r.body)) (λ q. rw q) (λ q. rw q));
     flush = λ k n. kind-fed (serve_flush s) 5 k refl refl (flush-values s S);
     tidy = λ k n. kind-fed (serve_tidy s) 6 k refl refl (tidy-values s S);
     probe = λ k n. kind-fed (serve_probe s (key_in r.body)) 8 k refl refl (λ x. unfold serve_probe in refl);
-    reading = λ k n. kind-fed (serve_reading s r.body) 9 k refl refl (λ x. rw (reading-store s r.body));
     report = λ k n. kind-fed (serve_report s) 7 k refl refl (λ x. unfold serve_report in refl);
   })
 

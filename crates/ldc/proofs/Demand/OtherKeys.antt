@@ -17,13 +17,13 @@ use Rattle.ldc.specs.Store.{Store}
 use Rattle.ldc.specs.Lent.{Lent, sizes_good, store_of, lent_of, broken}
 use Rattle.ldc.specs.Request.{Request, key_in, high_in, value_in}
 use Rattle.ldc.specs.Memtable.{serve_put}
-use Rattle.ldc.specs.Read.{value_of, look_up, serve_look_up, serve_report}
+use Rattle.ldc.specs.Read.{value_of, look_up, serve_look_up, serve_scan, serve_report}
 use Rattle.ldc.specs.Probe.{serve_probe}
 use Rattle.ldc.specs.Serve.{serve}
 use Rattle.ldc.specs.Run.{run}
 use Rattle.ldc.specs.History.{serve_list}
 use Rattle.ldc.proofs.Basics.Cases.{cases}
-use Rattle.ldc.proofs.Serving.Keeps.{look-store, keeps, scan-store, reading-store}
+use Rattle.ldc.proofs.Serving.Keeps.{look-store, keeps}
 use Rattle.ldc.proofs.Serving.KeepsWhole.{whole-keeps}
 use Rattle.ldc.proofs.Lent.Rules.{kept-lent_of}
 use Rattle.ldc.proofs.Lent.Shows.{sound-store_of, whole-store_of, lent_of-store_of}
@@ -56,11 +56,10 @@ module _ (s : Store) (S : Sound s) (k : ℕ) where
     put = λ i lo hi. put_other (record { key = key_in r.body; value = some (value_in r.body) }) (λ e. d (inl i, e));
     delete = λ i n. put_other (record { key = key_in r.body; value = none }) (λ e. d (inr i, e));
     look = λ i n. unfold serve_look_up in rw (look-store s (look_up s (key_in r.body)));
-    scan = λ i n. rw (scan-store s (key_in r.body) (high_in r.body));
+    scan = λ i n. unfold serve_scan in cases (ltb (high_in r.body) (key_in r.body)) (λ q. rw q) (λ q. rw q);
     flush = λ i n. flush-values s S k;
     tidy = λ i n. tidy-values s S k;
     probe = λ i n. unfold serve_probe in refl;
-    reading = λ i n. rw (reading-store s r.body);
     report = λ i n. unfold serve_report in refl;
   })
 

@@ -18,7 +18,7 @@ use Rattle.ldc.specs.Store.{Link, Store, card, links, bytes_at, table, level}
 use Rattle.ldc.specs.Request.{Request, Served, known, body_good, key_in, high_in, value_in, only}
 use Rattle.ldc.specs.Memtable.{serve_put}
 use Rattle.ldc.specs.Place.{free_places, flushed, serve_flush}
-use Rattle.ldc.specs.Read.{look_up, serve_look_up, serve_scan, serve_report, serve_reading}
+use Rattle.ldc.specs.Read.{look_up, serve_look_up, serve_scan, serve_report}
 use Rattle.ldc.specs.Probe.{serve_probe}
 use Rattle.ldc.specs.Tidy.{Slice, Step, idle, refused, moved, linked, merged, tidy_step, slices_of, merged_tables}
 use Rattle.ldc.specs.Steps.{step_served, serve_tidy, link_to, do_link, do_merge}
@@ -29,7 +29,7 @@ use Rattle.ldc.proofs.Basics.Cases.{cases, clash}
 use Rattle.ldc.proofs.Stores.CardFacts.{frozen-not-free}
 use Rattle.ldc.proofs.Steps.Flush.{flush-links, flush-bytes}
 use Rattle.ldc.proofs.Stores.Hang.{gains}
-use Rattle.ldc.proofs.Serving.Keeps.{some-length, look-store, scan-store, reading-store}
+use Rattle.ldc.proofs.Serving.Keeps.{some-length, look-store}
 use Rattle.ldc.proofs.Steps.LinkShape.{link-links, link-places}
 use Rattle.ldc.proofs.Steps.MergeShape.{merge-links, merge-gone, merge-kept}
 use Rattle.ldc.proofs.Steps.Move.{move-links, move-bytes}
@@ -157,7 +157,7 @@ module _ (s : Store) (S : Sound s) (us : List Unmerged) (T : Tracks s us) where
     unfolding known
     unknown-step k = cases (eqb r.kind 6) (λ q. let e : r.kind ≡ 6 = eqb-true r.kind 6 q in clash (rw e) k) (λ q. rw q)
 
-    misfit-step : body_good r.kind r.body ≡ false → (eqb r.kind 6 && eqb (length r.body) 0) ≡ false
+    misfit-step : body_good r.kind (length r.body) ≡ false → (eqb r.kind 6 && eqb (length r.body) 0) ≡ false
     unfolding body_good
     misfit-step k = cases (eqb r.kind 6) (λ q. let e : r.kind ≡ 6 = eqb-true r.kind 6 q in rw e (rw e at k)) (λ q. rw q)
 
@@ -172,10 +172,10 @@ module _ (s : Store) (S : Sound s) (us : List Unmerged) (T : Tracks s us) where
       put = λ k lo hi. no_kind (serve_put s (record { key = key_in r.body; value = some (value_in r.body) })) 1 k refl (put-tracks (record { key = key_in r.body; value = some (value_in r.body) }));
       delete = λ k n. no_kind (serve_put s (record { key = key_in r.body; value = none })) 2 k refl (put-tracks (record { key = key_in r.body; value = none }));
       look = λ k n. no_kind (serve_look_up s (key_in r.body)) 3 k refl (unfold serve_look_up in rw (look-store s (look_up s (key_in r.body))) T);
-      scan = λ k n. no_kind (serve_scan s (key_in r.body) (high_in r.body)) 4 k refl (rw (scan-store s (key_in r.body) (high_in r.body)) T);
+      scan = λ k n. no_kind (serve_scan s (key_in r.body) (high_in r.body)) 4 k refl
+          (unfold serve_scan in cases (ltb (high_in r.body) (key_in r.body)) (λ q. rw q T) (λ q. rw q T));
       flush = λ k n. no_kind (serve_flush s) 5 k refl flush-tracks;
       tidy = tidy-after;
       probe = λ k n. no_kind (serve_probe s (key_in r.body)) 8 k refl (unfold serve_probe in T);
-      reading = λ k n. no_kind (serve_reading s r.body) 9 k refl (rw (reading-store s r.body) T);
       report = λ k n. no_kind (serve_report s) 7 k refl (unfold serve_report in T);
     })

@@ -10,15 +10,12 @@ use lib.ListN.{length}
 use Rattle.table.specs.Limits.{table_limit}
 use Rattle.table.specs.Entry.{Entry}
 use Rattle.table.specs.Search.{find}
-use Rattle.reading.specs.declared.body.KeyRange.{KeyRange}
-use Rattle.reading.specs.declared.body.KeyRange.TheVariants.{Between, OutOfRange, NoMillimetre}
-use Rattle.reading.specs.Body.{keys_in}
 use Rattle.ldc.specs.Lists.{is_empty, is_some}
 use Rattle.ldc.specs.Store.{Store, level, within, with_memory}
 use Rattle.ldc.specs.Request.{Request, Served, known, body_good, key_in, high_in, value_in, done, only}
 use Rattle.ldc.specs.Memtable.{put, serve_put}
 use Rattle.ldc.specs.Place.{free_places, flushed, serve_flush}
-use Rattle.ldc.specs.Read.{look_up, contents, scan_body, serve_look_up, serve_scan, serve_report, scan_keys, serve_reading}
+use Rattle.ldc.specs.Read.{look_up, contents, scan_body, serve_look_up, serve_scan, serve_report}
 use Rattle.ldc.specs.Probe.{serve_probe}
 use Rattle.ldc.specs.Tidy.{Step, idle, refused, moved, linked, merged, tidy_step}
 use Rattle.ldc.specs.Steps.{step_served, serve_tidy}
@@ -84,15 +81,6 @@ module _ (s s' : Store) (S : Sound s) (a : Alike s s') where
       same_cond (ltb high low) (same-only 19)
       (same-done s s' (scan_body (within low high (contents s))) (scan_body (within low high (contents s'))) a (rw (contents-alike s s' S a)))
 
-  same_keys : (k : KeyRange) → SameServed (scan_keys s k) (scan_keys s' k)
-  same_keys (Between low high) = same-scan low.value high.value
-  same_keys OutOfRange = same-only 23
-  same_keys NoMillimetre = same-only 24
-
-  same-reading : (body : List ℕ) → SameServed (serve_reading s body) (serve_reading s' body)
-  unfolding serve_reading
-  same-reading body = same_keys (keys_in body)
-
   same-probe : (k : ℕ) → SameServed (serve_probe s k) (serve_probe s' k)
   unfolding serve_probe
   same-probe k =
@@ -123,14 +111,13 @@ module _ (s s' : Store) (S : Sound s) (a : Alike s s') where
       (same_cond (eqb kind 5) same-flush
       (same_cond (eqb kind 6) same-tidy
       (same_cond (eqb kind 8) (same-probe (key_in body))
-      (same_cond (eqb kind 9) (same-reading body)
-      same-report)))))))
+      same-report))))))
 
   pub alike-serve : (r : Request) → SameServed (serve s r) (serve s' r)
   unfolding serve
   alike-serve r =
       same_cond (known r.kind)
-      (same_cond (body_good r.kind r.body) (same_kind r.kind r.body) (same-only 17))
+      (same_cond (body_good r.kind (length r.body)) (same_kind r.kind r.body) (same-only 17))
       (same-only 16)
 
   -- ---- the slice list

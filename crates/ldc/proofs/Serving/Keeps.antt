@@ -14,15 +14,12 @@ use Rattle.table.specs.Entry.{Entry}
 use Rattle.table.specs.Limits.{table_limit, value_limit}
 use Rattle.table.specs.Search.{find}
 use Rattle.table.specs.Valid.{Keys, Values, Valid}
-use Rattle.reading.specs.declared.body.KeyRange.{KeyRange}
-use Rattle.reading.specs.declared.body.KeyRange.TheVariants.{Between, OutOfRange, NoMillimetre}
-use Rattle.reading.specs.Body.{keys_in}
 use Rattle.ldc.specs.Lists.{is_empty, is_some}
 use Rattle.ldc.specs.Store.{Store}
 use Rattle.ldc.specs.Request.{Request, key_in, high_in, value_in}
 use Rattle.ldc.specs.Memtable.{put, serve_put}
 use Rattle.ldc.specs.Place.{free_places, serve_flush}
-use Rattle.ldc.specs.Read.{look_up, look_up_served, serve_look_up, serve_scan, serve_report, scan_keys, serve_reading}
+use Rattle.ldc.specs.Read.{look_up, look_up_served, serve_look_up, serve_scan, serve_report}
 use Rattle.ldc.specs.Probe.{serve_probe}
 use Rattle.ldc.specs.Tidy.{Step, idle, refused, moved, linked, merged, tidy_step}
 use Rattle.ldc.specs.Steps.{step_served, serve_tidy}
@@ -128,19 +125,6 @@ pub look-store : (s : Store) (o : Option (List ℕ)) → (look_up_served s o).st
 look-store s none = refl
 look-store s (some v) = refl
 
-pub scan-store : (s : Store) (low high : ℕ) → (serve_scan s low high).store ≡ s
-unfolding serve_scan
-scan-store s low high = cases (ltb high low) (λ q. rw q) (λ q. rw q)
-
-keys-store : (s : Store) (k : KeyRange) → (scan_keys s k).store ≡ s
-keys-store s (Between low high) = scan-store s low.value high.value
-keys-store s OutOfRange = refl
-keys-store s NoMillimetre = refl
-
-pub reading-store : (s : Store) (body : List ℕ) → (serve_reading s body).store ≡ s
-unfolding serve_reading
-reading-store s body = keys-store s (keys_in body)
-
 pub keeps : (s : Store) (r : Request) → Sound s → Sent r → Sound (serve s r).store
 keeps s r S g = serve-cases s r (λ v. Sound v.store) (record {
   unknown = λ k. S;
@@ -148,10 +132,9 @@ keeps s r S g = serve-cases s r (λ v. Sound v.store) (record {
   put = λ k lo hi. put-sound s S (record { key = key_in r.body; value = some (value_in r.body) }) (key_fits r.body g.0) (entry-fits r.body g.0 lo hi);
   delete = λ k n. put-sound s S (record { key = key_in r.body; value = none }) (key_fits r.body g.0) ((omega arith, λ i. omega arith), tt);
   look = λ k n. unfold serve_look_up in rw (look-store s (look_up s (key_in r.body))) S;
-  scan = λ k n. rw (scan-store s (key_in r.body) (high_in r.body)) S;
+  scan = λ k n. unfold serve_scan in cases (ltb (high_in r.body) (key_in r.body)) (λ q. rw q S) (λ q. rw q S);
   flush = λ k n. flush-sound s S;
   tidy = λ k n. tidy-sound s S;
   probe = λ k n. unfold serve_probe in S;
-  reading = λ k n. rw (reading-store s r.body) S;
   report = λ k n. unfold serve_report in S;
 })

@@ -19,7 +19,7 @@ use Rattle.ldc.specs.Store.{Link, frozen, Store, new_store, card, links, level, 
 use Rattle.ldc.specs.Request.{Request, key_in, high_in, value_in}
 use Rattle.ldc.specs.Memtable.{serve_put}
 use Rattle.ldc.specs.Place.{written, flushed, free_places, serve_flush}
-use Rattle.ldc.specs.Read.{look_up, serve_look_up, serve_report}
+use Rattle.ldc.specs.Read.{look_up, serve_look_up, serve_scan, serve_report}
 use Rattle.ldc.specs.Probe.{serve_probe}
 use Rattle.ldc.specs.Tidy.{Slice, Step, idle, refused, moved, linked, merged, tidy_step, responsible, slices_of}
 use Rattle.ldc.specs.Steps.{marks_after, link_to, leaves, do_move, do_link, step_served, serve_tidy}
@@ -37,7 +37,7 @@ use Rattle.ldc.proofs.Steps.LinkShape.{link-links}
 use Rattle.ldc.proofs.Steps.MergeShape.{merge-was, merge-marks}
 use Rattle.ldc.proofs.Steps.Ranges.{reaches}
 use Rattle.ldc.proofs.Steps.StepFacts.{keep-member, step-moved, step-linked, step-merged}
-use Rattle.ldc.proofs.Serving.Keeps.{some-length, look-store, scan-store, reading-store}
+use Rattle.ldc.proofs.Serving.Keeps.{some-length, look-store}
 use Rattle.ldc.proofs.Serving.ServeCases.{serve-cases}
 use Rattle.ldc.proofs.Serving.Splits.{Sent}
 
@@ -173,10 +173,9 @@ fits-keeps s r S f g = serve-cases s r (λ v. Fits v.store) (record {
   put = λ k lo hi. put-fits s S f (record { key = key_in r.body; value = some (value_in r.body) });
   delete = λ k n. put-fits s S f (record { key = key_in r.body; value = none });
   look = λ k n. unfold serve_look_up in rw (look-store s (look_up s (key_in r.body))) f;
-  scan = λ k n. rw (scan-store s (key_in r.body) (high_in r.body)) f;
+  scan = λ k n. unfold serve_scan in cases (ltb (high_in r.body) (key_in r.body)) (λ q. rw q f) (λ q. rw q f);
   flush = λ k n. flush-fits s S f;
   tidy = λ k n. tidy-fits s S f;
   probe = λ k n. unfold serve_probe in f;
-  reading = λ k n. rw (reading-store s r.body) f;
   report = λ k n. unfold serve_report in f;
 })

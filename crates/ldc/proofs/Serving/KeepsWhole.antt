@@ -18,14 +18,14 @@ use Rattle.ldc.specs.Store.{Store, size, bytes_at}
 use Rattle.ldc.specs.Request.{Request, key_in, high_in, value_in}
 use Rattle.ldc.specs.Memtable.{serve_put}
 use Rattle.ldc.specs.Place.{place_taken, written, written_all, places_taken, flushed, free_places, serve_flush}
-use Rattle.ldc.specs.Read.{look_up, serve_look_up, serve_report}
+use Rattle.ldc.specs.Read.{look_up, serve_look_up, serve_scan, serve_report}
 use Rattle.ldc.specs.Probe.{serve_probe}
 use Rattle.ldc.specs.Tidy.{Step, idle, refused, moved, linked, merged, tidy_step, slices_of, merged_tables}
 use Rattle.ldc.specs.Steps.{leaves, do_move, do_link, step_served, serve_tidy}
 use Rattle.ldc.specs.Serve.{serve}
 use Rattle.ldc.proofs.Basics.Cases.{cases}
 use Rattle.ldc.proofs.Stores.Facts.{cursor-sound}
-use Rattle.ldc.proofs.Serving.Keeps.{look-store, scan-store, reading-store}
+use Rattle.ldc.proofs.Serving.Keeps.{look-store}
 use Rattle.ldc.proofs.Steps.LinkShape.{link-places, link-size}
 use Rattle.ldc.proofs.Steps.MergeShape.{merged-pieces, p-occupied, filled-wrote, merge-bytes, merge-size}
 use Rattle.ldc.proofs.Serving.ServeCases.{serve-cases}
@@ -88,10 +88,9 @@ whole-keeps s r S w g = serve-cases s r (λ v. Whole v.store) (record {
   put = λ k lo hi. put_whole s (record { key = key_in r.body; value = some (value_in r.body) }) w;
   delete = λ k n. put_whole s (record { key = key_in r.body; value = none }) w;
   look = λ k n. unfold serve_look_up in rw (look-store s (look_up s (key_in r.body))) w;
-  scan = λ k n. rw (scan-store s (key_in r.body) (high_in r.body)) w;
+  scan = λ k n. unfold serve_scan in cases (ltb (high_in r.body) (key_in r.body)) (λ q. rw q w) (λ q. rw q w);
   flush = λ k n. flush-whole s S w;
   tidy = λ k n. tidy-whole s S w;
   probe = λ k n. unfold serve_probe in w;
-  reading = λ k n. rw (reading-store s r.body) w;
   report = λ k n. unfold serve_report in w;
 })

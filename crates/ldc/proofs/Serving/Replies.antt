@@ -15,15 +15,12 @@ use Rattle.table.specs.Entry.{Entry, value_bytes, length_at}
 use Rattle.table.specs.Search.{find}
 use Rattle.table.specs.Valid.{Values}
 use Rattle.table.proofs.Decode.{entries-short}
-use Rattle.reading.specs.declared.body.KeyRange.{KeyRange}
-use Rattle.reading.specs.declared.body.KeyRange.TheVariants.{Between, OutOfRange, NoMillimetre}
-use Rattle.reading.specs.Body.{keys_in}
 use Rattle.ldc.specs.Lists.{is_some, is_empty}
 use Rattle.ldc.specs.Store.{Store, within}
 use Rattle.ldc.specs.Request.{Request, Served, reply_bytes, reply_of, reply_head_size, known, body_good}
 use Rattle.ldc.specs.Memtable.{serve_put}
 use Rattle.ldc.specs.Place.{free_places, serve_flush}
-use Rattle.ldc.specs.Read.{gather, read_order, holds_value, contents, value_of, look_up, serve_look_up, scan_limit, scan_body, serve_scan, serve_report, scan_keys, serve_reading}
+use Rattle.ldc.specs.Read.{gather, read_order, holds_value, contents, value_of, look_up, serve_look_up, scan_limit, scan_body, serve_scan, serve_report}
 use Rattle.ldc.specs.Probe.{opened, bits_in, probe_body, serve_probe}
 use Rattle.ldc.specs.Tidy.{Step, idle, refused, moved, linked, merged, tidy_step}
 use Rattle.ldc.specs.Steps.{step_served, serve_tidy}
@@ -143,15 +140,6 @@ module _ (s : Store) (S : Sound s) where
       cases (ltb high low) (λ q. rw q (omega arith))
       (λ q. let b = scan-short (within low high (contents s)) (values-keep _ (contents s) contents-values) in rw q (omega arith))
 
-  keys-short : (k : KeyRange) → Short (scan_keys s k)
-  keys-short (Between low high) = scans-short low.value high.value
-  keys-short OutOfRange = omega arith
-  keys-short NoMillimetre = omega arith
-
-  reading-short : (body : List ℕ) → Short (serve_reading s body)
-  unfolding serve_reading
-  reading-short body = keys-short (keys_in body)
-
   probe-short : (k : ℕ) → Short (serve_probe s k)
   unfolding serve_probe
   probe-short k =
@@ -170,14 +158,13 @@ module _ (s : Store) (S : Sound s) where
       (λ q. rw q (cases (eqb kind 5) (λ q. rw q (flush-short s))
       (λ q. rw q (cases (eqb kind 6) (λ q. rw q (step-short (tidy_step s) s))
       (λ q. rw q (cases (eqb kind 8) (λ q. rw q (probe-short _))
-      (λ q. rw q (cases (eqb kind 9) (λ q. rw q (reading-short body))
-      (λ q. rw q (report-short s))))))))))))))))
+      (λ q. rw q (report-short s))))))))))))))
 
   serve-short : (r : Request) → Short (serve s r)
   unfolding serve
   serve-short r =
       cases (known r.kind)
-      (λ q. rw q (cases (body_good r.kind r.body) (λ q. rw q (kind-short r.kind r.body)) (λ q. rw q (omega arith))))
+      (λ q. rw q (cases (body_good r.kind (length r.body)) (λ q. rw q (kind-short r.kind r.body)) (λ q. rw q (omega arith))))
       (λ q. rw q (omega arith))
 
   pub reply-short : (r : Request) → length (reply_of r (serve s r)) ≤ room_limit

@@ -13,14 +13,14 @@ use Rattle.ldc.specs.Store.{Store}
 use Rattle.ldc.specs.Request.{Request, key_in, high_in, value_in}
 use Rattle.ldc.specs.Memtable.{serve_put}
 use Rattle.ldc.specs.Place.{written, flushed, free_places, serve_flush}
-use Rattle.ldc.specs.Read.{look_up, serve_look_up, serve_report}
+use Rattle.ldc.specs.Read.{look_up, serve_look_up, serve_scan, serve_report}
 use Rattle.ldc.specs.Probe.{serve_probe}
 use Rattle.ldc.specs.Tidy.{Step, idle, refused, moved, linked, merged, tidy_step}
 use Rattle.ldc.specs.Steps.{leaves, do_move, step_served, serve_tidy}
 use Rattle.ldc.specs.Serve.{serve}
 use Rattle.ldc.specs.History.{serve_list}
 use Rattle.ldc.proofs.Basics.Cases.{cases}
-use Rattle.ldc.proofs.Serving.Keeps.{look-store, keeps, scan-store, reading-store}
+use Rattle.ldc.proofs.Serving.Keeps.{look-store, keeps}
 use Rattle.ldc.proofs.Steps.LinkShape.{link-threshold}
 use Rattle.ldc.proofs.Steps.MergeShape.{merge-threshold}
 use Rattle.ldc.proofs.Serving.ServeCases.{serve-cases}
@@ -57,11 +57,10 @@ module _ (s : Store) (S : Sound s) where
     put = λ k lo hi. put-threshold (record { key = key_in r.body; value = some (value_in r.body) });
     delete = λ k n. put-threshold (record { key = key_in r.body; value = none });
     look = λ k n. unfold serve_look_up in rw (look-store s (look_up s (key_in r.body)));
-    scan = λ k n. rw (scan-store s (key_in r.body) (high_in r.body));
+    scan = λ k n. unfold serve_scan in cases (ltb (high_in r.body) (key_in r.body)) (λ q. rw q) (λ q. rw q);
     flush = λ k n. flush-threshold;
     tidy = λ k n. tidy-threshold;
     probe = λ k n. unfold serve_probe in refl;
-    reading = λ k n. rw (reading-store s r.body);
     report = λ k n. unfold serve_report in refl;
   })
 

@@ -7,20 +7,20 @@ use mathlib.Core.Logic.{⊎_elim}
 use native.Mathlib.Omega.{arith}
 use borrow.Author.Rules.{rules}
 use borrow.Author.Tests.{not-true, not-false}
+use lib.ListN.{length}
 use Rattle.table.specs.Entry.{entry_of}
 use Rattle.ldc.specs.Lent.{store_of, lent_of}
 use Rattle.ldc.specs.Request.{known, key_in, high_in, value_in}
-use Rattle.ldc.specs.Read.{serve_look_up, serve_scan, serve_reading, serve_report}
+use Rattle.ldc.specs.Read.{serve_look_up, serve_scan, serve_report}
 use Rattle.ldc.specs.Probe.{serve_probe}
 use Rattle.ldc.proofs.Lent.Rules.{unbroken}
-use Rattle.ldc.proofs.Serving.Keeps.{scan-store, reading-store}
 use Rattle.book.specs.Head.{head_words}
 use Rattle.book.specs.Pieces.{lent}
 use Rattle.book_edit.proofs.Keeping.{shape_of, lent-kept}
-use Rattle.serve.proofs.ByKind.{good, unknown-0, unknown-above, serve-unknown, serve-misfit, serve-3, serve-4, serve-5, serve-6, serve-7, serve-8, serve-9, serve-put, length-3, length-4, length-8, length-9, form-put, after-other, after-misfit, after-tidy, known-six}
+use Rattle.serve.proofs.ByKind.{good, unknown-0, unknown-above, serve-unknown, serve-misfit, serve-3, serve-4, serve-5, serve-6, serve-7, serve-8, serve-put, length-3, length-4, length-8, form-put, after-other, after-misfit, after-tidy, known-six}
 use Rattle.serve_write.proofs.Turns.{turned_by}
 use Rattle.serve_read.proofs.Counted.{report-served}
-use Rattle.serve.proofs.Unmoved.{look-up-store, probe-store, report-store, counts-kept, turn-read, turn-refused, turn-put}
+use Rattle.serve.proofs.Unmoved.{scan-store, look-up-store, probe-store, report-store, counts-kept, turn-read, turn-refused, turn-put}
 use Rattle.serve.proofs.serve.Statement.{statement}
 use Rattle.serve.proofs.serve.Tie as tie
 
@@ -40,7 +40,7 @@ held c =
 -- The body has a length that the kind allows.
 fit : (c : tie.Else1)
     → let a = c.before.before.before.before.before.before.before.args in
-    good a.kind a.body.now ≡ true
+    good a.kind (length a.body.now) ≡ true
 fit c = sym c.before.is-good.ensures ∙ not-false _ c.if1.false
 
 is-good-requires : tie.Need-is-good-requires
@@ -111,13 +111,6 @@ probe-reply-requires : tie.Need-probe-reply-requires
 probe-reply-requires c κs =
     let p = c.before.before.before.before.before.before.before.before.before.before.before.before.before.before.requires in
     (record { memory = p.0.memory; kept = p.0.kept }, p.1.0)
-
-reading-reply-requires : tie.Need-reading-reply-requires
-reading-reply-requires c κs =
-    let x = c.before.before.before.before.before in
-    let b = x.before.before.before.before.before.before.before.before in
-    let p = b.requires in
-    (record { memory = p.0.memory; kept = p.0.kept }, (p.1.0, length-9 b.args.kind b.args.body.now x.match.keys7 (fit x.before)))
 
 put-requires : tie.Need-put-requires
 put-requires c κs =
@@ -190,8 +183,8 @@ returns-3 c =
     let a = k.before.before.before.before.before.args in
     let m = lent a.area.now a.cards.now a.lists.now (head_words a.head) a.memory.now in
     let s = store_of m in (
-      turn-read m (held k) a.kind (serve_scan s y.key-at2.result.value z.key-at3.result.value) a.answer.now _ a.at _ (scan-store s _ _) r.scan-reply.ensures
-          ∙ turned_by m a.kind a.body.now a.answer.now a.at refl
+      turn-read m (held k) 4 (serve_scan s y.key-at2.result.value z.key-at3.result.value) a.answer.now _ a.at _ (scan-store s _ _) r.scan-reply.ensures
+          ∙ turned_by m a.kind a.body.now a.answer.now a.at (sym x.match.keys2)
           (ap (λ (n : ℕ). serve_scan s n z.key-at3.result.value) y.key-at2.ensures ∙ ap (λ (n : ℕ). serve_scan s (key_in a.body.now) n) z.key-at3.ensures
           ∙ sym (serve-4 s a.kind a.body.now x.match.keys2 (fit i))),
       after-other a.suspect s a.kind a.body.now (λ e. omega (arith, x.match.keys2)),
@@ -318,38 +311,8 @@ same-length-30 c = search rules
 same-length-31 : tie.Need-same-length-31
 same-length-31 c = search rules
 
-same-length-32 : tie.Need-same-length-32
-same-length-32 c = search rules
-
-same-length-33 : tie.Need-same-length-33
-same-length-33 c = search rules
-
-same-length-34 : tie.Need-same-length-34
-same-length-34 c = search rules
-
 returns-8 : tie.Need-returns-8
 returns-8 c =
-    let r = c.before.before in
-    let x = r.before.before.before.before.before.before in
-    let i = x.before in
-    let g = i.before in
-    let k = g.before in
-    let a = k.before.before.before.before.before.args in
-    let m = lent a.area.now a.cards.now a.lists.now (head_words a.head) a.memory.now in
-    let s = store_of m in (
-      turn-read m (held k) 9 (serve_reading s a.body.now) a.answer.now _ a.at _ (reading-store s a.body.now) r.reading-reply.ensures
-          ∙ turned_by m a.kind a.body.now a.answer.now a.at (sym x.match.keys7) (sym (serve-9 s a.kind a.body.now x.match.keys7 (fit i))),
-      after-other a.suspect s a.kind a.body.now (λ e. omega (arith, x.match.keys7)),
-    )
-
-same-length-35 : tie.Need-same-length-35
-same-length-35 c = search rules
-
-same-length-36 : tie.Need-same-length-36
-same-length-36 c = search rules
-
-returns-9 : tie.Need-returns-9
-returns-9 c =
     let r = c.before.before.before.before in
     let t = r.before.before.before in
     let i = t.before.before in
@@ -363,11 +326,11 @@ returns-9 c =
       after-other a.suspect s a.kind a.body.now (λ e. omega (arith, t.if2.true)),
     )
 
-same-length-37 : tie.Need-same-length-37
-same-length-37 c = search rules
+same-length-32 : tie.Need-same-length-32
+same-length-32 c = search rules
 
-returns-10 : tie.Need-returns-10
-returns-10 c =
+returns-9 : tie.Need-returns-9
+returns-9 c =
     let r = c.before.before in
     let x = r.before.before in
     let i = x.before in
@@ -376,10 +339,10 @@ returns-10 c =
     let a = k.before.before.before.before.before.args in
     let m = lent a.area.now a.cards.now a.lists.now (head_words a.head) a.memory.now in
     let s = store_of m in
-    let off : known a.kind ≡ false = ⊎_elim (λ w. rw w.keys8 unknown-0)
-    (λ w. let n = w.0.rest.0.0 in
+    let off : known a.kind ≡ false = ⊎_elim (λ w. rw w.keys7 unknown-0)
+    (λ w. let n = w.0.rest.0 in
     let six : 6 ≤ a.kind = omega (arith, w.1.left, n.0.0.0.0.0.1, n.0.0.0.0.1, n.0.0.0.1) in
-    unknown-above a.kind (omega (six, n.0.0.1, n.0.1, n.1, w.0.rest.0.1, arith))) x.match.branch in (
+    unknown-above a.kind (omega (six, n.0.0.1, n.0.1, n.1, arith))) x.match.branch in (
       turn-refused m (held k) a.kind 16 a.answer.now _ a.at _ r.answer-bare2.ensures
           ∙ turned_by m a.kind a.body.now a.answer.now a.at refl (sym (serve-unknown s a.kind a.body.now off)),
       after-other a.suspect s a.kind a.body.now (λ e. known-six a.kind e off),
@@ -403,7 +366,6 @@ serve-spec =
     report-reply-requires
     key-at-requires-4
     probe-reply-requires
-    reading-reply-requires
     put-requires
     answer-bare-requires-2
     same-length-2
@@ -442,12 +404,6 @@ serve-spec =
     returns-7
     same-length-30
     same-length-31
-    same-length-32
-    same-length-33
-    same-length-34
     returns-8
-    same-length-35
-    same-length-36
-    returns-9
-    same-length-37
-    returns-10)
+    same-length-32
+    returns-9)

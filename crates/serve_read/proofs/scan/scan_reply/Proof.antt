@@ -39,7 +39,7 @@ returns : tie.Need-returns
 returns c =
     let k = c.before.before.before.before.before.before.before.before in
     let a = k.before.before.before.args in
-    scan-refused (store_of (pieces k)) a.low.value a.high.value a.kind a.answer.now a.at c.before.before.write-head.new.0
+    scan-refused (store_of (pieces k)) a.low.value a.high.value a.answer.now a.at c.before.before.write-head.new.0
     (omega (arith, c.before.before.before.before.if1.true)) c.before.before.write-head.ensures
 
 slice-aggregate-next-values : tie.Need-slice-aggregate-next-values
@@ -57,6 +57,9 @@ given-of-requires c κs = search rules
 slice-aggregate-copy-values : tie.Need-slice-aggregate-copy-values
 slice-aggregate-copy-values c = search rules
 
+add-copy-values : tie.Need-overflow-add-copy-values
+add-copy-values c = search rules
+
 -- What was found, and what of it is given.
 abbrev known : tie.After-next-values → tie.After-shared-slice-known3
 known c = c.before.before.before.before.before.before.before
@@ -69,11 +72,6 @@ found c = c.next-values.ensures
 
 abbrev finding : tie.After-given-of → tie.After-next-values
 finding c = c.before.before.before
-
-add-copy-values : tie.Need-overflow-add-copy-values
-add-copy-values c =
-    let b = (known (finding c.before.before)).before.before.before in
-    record { fits = omega (arith, b.pre.1, b.good.1.1.1.1.1.1.1.1.0) }
 
 gives : (c : tie.After-given-of)
     → let t = (finding c).next-values in
@@ -118,8 +116,8 @@ short c =
           (sound-kept (pieces k) b.pre.0.kept b.pre.0.memory (λ i. omega (arith, k.shared-slice-known3.given i)) (λ i. omega (arith, k.before.before.shared-slice-known.given i))),
     )
 
-cast-t30 : tie.Need-overflow-cast-t30
-cast-t30 c = search rules
+cast-t29 : tie.Need-overflow-cast-t29
+cast-t29 c = search rules
 
 tell-more-requires : tie.Need-tell-more-requires
 tell-more-requires c κs = search rules
@@ -164,7 +162,7 @@ returns-2 c =
     let t = x.next-values in
     let K = t.last.1.1.1.1.1.1.1.0 in
     let Z = t.last.1.1.1.1.1.1.1.1.0 in
-    scan-done (store_of (pieces k)) a.low.value a.high.value a.kind a.answer.now a.at w.copy-values.new.1.1.1.1.0 h.write-head2.new.0
+    scan-done (store_of (pieces k)) a.low.value a.high.value a.answer.now a.at w.copy-values.new.1.1.1.1.0 h.write-head2.new.0
     g.given-of.result m.tell-more.result w.copy-values.result (omega (arith, x.before.before.before.if1.left)) (filled w).written
     (given-many _ K Z t.result (values k) (found x) g.given-of.result g.given-of.ensures) (filled w).ends
     (m.tell-more.ensures ∙ more-told _ K Z t.result (values k) (found x)) (h.write-head2.ensures ∙ rw p.put-numbers.ensures)
@@ -183,7 +181,7 @@ scan-reply-spec =
     slice-aggregate-copy-values
     add-copy-values
     copy-values-requires
-    cast-t30
+    cast-t29
     tell-more-requires
     add-put-numbers
     slice-aggregate-put-numbers
