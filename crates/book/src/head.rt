@@ -33,7 +33,7 @@ const LENGTH3: usize = LENGTHS + 3;
 
 // Where the next place is taken and the next table chosen: the cursor, and flag and key of the marks of levels 1 and 2. A mark's flag is 1 if
 // there is a key, 0 if none; what flags are lent is kept as it is.
-#[derive(Drop)]
+#[derive(Clone, Copy)]
 pub struct Position {
     pub cursor: usize,
     pub flag1: u64,
@@ -42,7 +42,7 @@ pub struct Position {
     pub key2: Key,
 }
 
-#[derive(Drop)]
+#[derive(Clone, Copy)]
 pub struct Head {
     pub threshold: u64,
     pub position: Position,
@@ -53,7 +53,7 @@ pub struct Head {
 }
 
 // The mark of a level.
-#[derive(Drop)]
+#[derive(Clone, Copy)]
 pub enum Mark {
     At(Key),
     Nothing,

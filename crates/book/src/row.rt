@@ -16,7 +16,7 @@ use summary::filter;
 use summary::filter::{SUMMARY_WORDS, Words};
 
 // A slice link: a frozen place, a key range, both ends included, and the number of the place's entries in that range.
-#[derive(Drop)]
+#[derive(Clone, Copy)]
 pub struct Link {
     pub place: usize,
     pub low: Key,

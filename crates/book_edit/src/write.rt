@@ -17,7 +17,7 @@ use table::limits;
 use table_builder::place;
 
 // A place that was taken, and the head after it.
-#[derive(Drop)]
+#[derive(Clone, Copy)]
 pub struct Taken {
     pub place: usize,
     pub head: Head,

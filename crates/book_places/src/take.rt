@@ -1,6 +1,6 @@
 // Taking a place: the head's position, the cursor and the two marks in one struct, is lent to the one function that takes a place.
 //
-// `take_place` holds a reference to a struct and `take` makes one, so these two are proved by hand; who calls `take` needs no such proof.
+// `take` has the position by value, in and out, for who holds no reference to one.
 ghost use Rattle.std.specs.Prelude.{◌≡◌, [], ◌≤◌, ◌<◌, length, set};
 ghost use Rattle.table.specs.Table.{zeros};
 ghost use Rattle.summary.specs.Summary.{summary_words};
@@ -18,14 +18,14 @@ use book::row;
 use book::row::Row;
 
 // A place, and the cursor after it.
-#[derive(Drop)]
+#[derive(Clone, Copy)]
 pub struct Step {
     pub place: usize,
     pub cursor: usize,
 }
 
 // A place that was taken, and the position after it.
-#[derive(Drop)]
+#[derive(Clone, Copy)]
 pub struct Advanced {
     pub place: usize,
     pub position: Position,

@@ -1,5 +1,7 @@
 // The check's quick yes to rules E, F and G: one pass over the rows and one over the lists. Where it says no, the rules themselves tell
 // which of them is broken.
+#![tactic(auto)]
+
 ghost use Rattle.std.specs.Prelude.{◌≡◌, true, length};
 ghost use Rattle.check_walk.specs.Links.{Walkable};
 ghost use Rattle.check_places.specs.Links.{walk_c};

@@ -2,6 +2,8 @@
 //
 // A module for each rule of document 01, "Sound store", here and in `check_places` and `check_links`; each assumes no more than what was
 // found before it. Rule D is a test of `table`.
+#![tactic(auto)]
+
 ghost use Rattle.std.specs.Prelude.{◌≡◌, true, ◌≤◌, length};
 ghost use Rattle.ldc.specs.Lent.{sizes_good, first_broken};
 ghost use Rattle.check_store.specs.Answer.{Answers};
@@ -28,7 +30,7 @@ mod rule_g;
 const FEW_PLACES: usize = 256;
 
 // What a check answers: accepted, wrong sizes or unsound, and with the last the letter of the first broken rule.
-#[derive(Drop)]
+#[derive(Clone, Copy)]
 pub struct Checked {
     pub number: u64,
     pub letter: u64,
@@ -75,7 +77,7 @@ fn first_broken(
 ) -> u64
     requires { (sizes_good (lent area.now cards.now lists.now head.now memory.now) ≡ true)
         × ((length cards.now ≤ length ends.old) × (length marks.old ≡ length cards.now)) }
-    ensures { result ≡ first_broken (before area cards lists head memory) }
+    ensures { result ≡ first_broken (before area.now cards.now lists.now head.now memory.now) }
 {
     if !rule_a::kept(head, cards.len()) {
         return letters::A;
@@ -102,7 +104,7 @@ fn first_of_few(
     memory: &PlaceBytes,
 ) -> u64
     requires { (sizes_good (lent area.now cards.now lists.now head.now memory.now) ≡ true) × (length cards.now ≤ few_places) }
-    ensures { result ≡ first_broken (before area cards lists head memory) }
+    ensures { result ≡ first_broken (before area.now cards.now lists.now head.now memory.now) }
 {
     let mut ends = [0u64; FEW_PLACES];
     let mut marks = [0u8; FEW_PLACES];
@@ -127,7 +129,7 @@ fn first_of_many(
     memory: &PlaceBytes,
 ) -> u64
     requires { sizes_good (lent area.now cards.now lists.now head.now memory.now) ≡ true }
-    ensures { result ≡ first_broken (before area cards lists head memory) }
+    ensures { result ≡ first_broken (before area.now cards.now lists.now head.now memory.now) }
 {
     let mut ends = [0u64; MOST_PLACES];
     let mut marks = [0u8; MOST_PLACES];
@@ -152,7 +154,7 @@ fn first_letter(
     memory: &PlaceBytes,
 ) -> u64
     requires { sizes_good (lent area.now cards.now lists.now head.now memory.now) ≡ true }
-    ensures { result ≡ first_broken (before area cards lists head memory) }
+    ensures { result ≡ first_broken (before area.now cards.now lists.now head.now memory.now) }
 {
     if cards.len() <= FEW_PLACES {
         return first_of_few(area, cards, lists, head, memory);
@@ -169,7 +171,7 @@ pub fn check(
     memory: &PlaceBytes,
 ) -> Checked
     ensures { Answers
-        (before area cards lists head memory)
+        (before area.now cards.now lists.now head.now memory.now)
         result.number
         result.letter }
 {

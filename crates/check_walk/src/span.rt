@@ -13,7 +13,7 @@ use book::{place, row};
 use coding::key::Key;
 use table::search;
 
-#[derive(Drop)]
+#[derive(Clone, Copy)]
 pub struct Span {
     pub start: Key,
     pub end: Key,

@@ -11,13 +11,13 @@ pub const LINES: u32 = 16777216;
 pub const DISTANCES: u64 = 1099511627776;
 
 // A key is the number and nothing else, so that every 64-bit number is one.
-#[derive(Drop)]
+#[derive(Clone, Copy)]
 pub struct Key {
     pub value: u64,
 }
 
 // What building a key from a line and a distance gives.
-#[derive(Drop)]
+#[derive(Clone, Copy)]
 pub enum Built {
     Whole(Key),
     // The line has more than 24 bits, or the distance more than 40.

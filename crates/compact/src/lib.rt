@@ -1,4 +1,6 @@
 // Tidies: the step that was planned is done or refused, or there is nothing to do.
+#![tactic(auto)]
+
 ghost use Rattle.ldc.specs.Tidy.{tidy_step};
 ghost use Rattle.book.specs.Pieces.{given_beside, held_beside, left_beside};
 ghost use Rattle.compact.specs.Tidied.{Follows, DoesBeside};
@@ -14,8 +16,8 @@ pub mod step;
 // Does the step that is due, which is the store's plan. Where there is none the result is 65, where there is no room for a merge 20, and
 // nothing changes.
 pub fn tidy(area: &mut [u8], cards: &mut [Row], lists: &mut [u16], head: Head, plan: Plan) -> Tidied
-    requires { Follows (given_beside area cards lists head) plan }
-    ensures { DoesBeside (held_beside area cards lists head) tidy_step (left_beside area cards lists result.head) result }
+    requires { Follows (given_beside area.old cards.old lists.old head) plan }
+    ensures { DoesBeside (held_beside area.old cards.old lists.old head) tidy_step (left_beside area cards lists result.head) result }
 {
     match plan {
         Plan::Idle => Tidied {

@@ -11,7 +11,7 @@ use compact_merge::tables;
 use wire::results;
 
 // What a tidy gives: its result, with result 0 the step and its level, and the head after it.
-#[derive(Drop)]
+#[derive(Clone, Copy)]
 pub struct Tidied {
     pub result: u16,
     pub step: u16,
@@ -28,8 +28,8 @@ pub fn merge_or_refuse(
     n: usize,
     p: usize,
 ) -> Tidied
-    requires { Mergeable (given_beside area cards lists head) n p }
-    ensures { DoesBeside (held_beside area cards lists head) (λ s. merge_step s n p) (left_beside area cards lists result.head) result }
+    requires { Mergeable (given_beside area.old cards.old lists.old head) n p }
+    ensures { DoesBeside (held_beside area.old cards.old lists.old head) (λ s. merge_step s n p) (left_beside area cards lists result.head) result }
 {
     let mut out = [0u8; tables::MERGE_BYTES];
     let k = tables::merge_into(area, cards, lists, head, n, p, &mut out);
@@ -59,8 +59,8 @@ pub fn take_down(
     n: usize,
     p: usize,
 ) -> Tidied
-    requires { Choosable (given_beside area cards lists head) n p }
-    ensures { DoesBeside (held_beside area cards lists head) (λ s. down_step s n p) (book_left_beside area cards lists result.head) result }
+    requires { Choosable (given_beside area.now cards.old lists.old head) n p }
+    ensures { DoesBeside (held_beside area.now cards.old lists.old head) (λ s. down_step s n p) (book_left_beside area cards lists result.head) result }
 {
     let went = down::go_down(area, cards, lists, head, n, p);
     let after = went.head;

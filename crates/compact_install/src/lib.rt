@@ -1,5 +1,7 @@
 // Does a merge whose tables are built: they are written in the old table's place, and it is freed with the frozen tables that no link
 // names any more.
+#![tactic(auto)]
+
 ghost use Rattle.book.specs.Pieces.{given_beside, held_beside, left_beside};
 ghost use Rattle.compact_install.specs.Merge.{Merges, Merged};
 
@@ -22,8 +24,8 @@ pub fn finish_merge(
     out: &[u8],
     k: usize,
 ) -> Head
-    requires { Merges (given_beside area cards lists head) n p out.now k }
-    ensures { Merged (held_beside area cards lists head) n p (left_beside area cards lists result) }
+    requires { Merges (given_beside area.old cards.old lists.old head) n p out.now k }
+    ensures { Merged (held_beside area.old cards.old lists.old head) n p (left_beside area cards lists result) }
 {
     let row = cards[p];
     let items = list::items(lists, cards.len(), head.length_of(n), n);

@@ -20,8 +20,8 @@ pub fn write_all(
     out: &[u8],
     k: usize,
 ) -> Head
-    requires { Writes (given_beside area cards lists head []) n p out.now k }
-    ensures { Places (held_beside area cards lists head []) n p out.now k (left_beside area cards lists result []) }
+    requires { Writes (given_beside area.old cards.old lists.old head []) n p out.now k }
+    ensures { Places (held_beside area.old cards.old lists.old head []) n p out.now k (left_beside area cards lists result []) }
 {
     let old = p as u16;
     let mut taken = [0u16; MERGE_TABLES];

@@ -6,15 +6,15 @@ use Rattle.ldc.specs.Tidy.{Slice, greatest, responsible, holding}
 use Rattle.ldc.specs.Steps.{link_to}
 use Rattle.ldc.specs.Layout.{link_limit, row_with}
 use Rattle.ldc.specs.Facts.{Spans}
-use Rattle.book.specs.Pieces.{Words, Rows}
+use Rattle.book.specs.Pieces.{Words, MutRows}
 use Rattle.book.specs.Row.{link_added}
 use Rattle.book.specs.Rows.{shown_by}
 use Rattle.read.specs.Shown.{Tabled, Legible, Rising, table_in}
 use Rattle.read.specs.Level.{rank}
 
 -- The store that area and cards show when a call begins.
-abbrev pub seen : (area : Words) → (cards : Rows) → Store
-seen area cards = shown_by area.entry.now cards.entry.now
+abbrev pub seen : (area : List ℕ) → (cards : List (List ℕ)) → Store
+seen area cards = shown_by area cards
 
 -- ---- the table responsible for a key
 
@@ -47,8 +47,8 @@ unfoldable pub slices_from : Store → List Entry → (p from : ℕ) → List �
 slices_from s es p from qs = holding es (responsible p from (map (λ q. record { place = q; end = span_end s q }) qs))
 
 -- The slices of p that hang on all tables of a level, when a call begins.
-abbrev pub slices_seen : (area : Words) → (cards : Rows) → (items : Words) → (p : ℕ) → List Slice
-slices_seen area cards items p = slices_from (seen area cards) (table_in area p) p 0 items.entry.now
+abbrev pub slices_seen : (area : Words) → (cards : MutRows) → (items : Words) → (p : ℕ) → List Slice
+slices_seen area cards items p = slices_from (seen area.entry.now cards.entry.now) (table_in area p) p 0 items.entry.now
 
 -- ---- rows
 

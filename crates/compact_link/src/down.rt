@@ -11,7 +11,7 @@ use read::place;
 use wire::results;
 
 // The number of the step that was done, and the head after it.
-#[derive(Drop)]
+#[derive(Clone, Copy)]
 pub struct Down {
     pub step: u16,
     pub head: Head,
@@ -27,8 +27,8 @@ pub fn go_down(
     n: usize,
     p: usize,
 ) -> Down
-    requires { ReadyBeside (given_beside area cards lists head) n p }
-    ensures { GoesDown (held_beside area cards lists head) n p (book_left_beside area cards lists result.head) result.step }
+    requires { ReadyBeside (given_beside area.now cards.old lists.old head) n p }
+    ensures { GoesDown (held_beside area.now cards.old lists.old head) n p (book_left_beside area cards lists result.head) result.step }
 {
     let places = cards.len();
     let mark = place::greatest(area, p);

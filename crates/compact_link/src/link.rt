@@ -12,7 +12,7 @@ use read::place;
 use table::search::Found;
 
 // Which of the tables gained a link, and to where it is responsible.
-#[derive(Drop)]
+#[derive(Clone, Copy)]
 pub struct Hung {
     pub at: usize,
     pub high: Key,
@@ -21,10 +21,10 @@ pub struct Hung {
 // Hangs a slice of p on the table that is responsible for a key.
 fn hang_at(area: &[u8], cards: &mut [Row], items: &[u16], p: usize, from: Key, key: Key) -> Hung
     requires { Hosts area.now cards.old from.value items.now × ((1 ≤ length items.now) × Tabled area.now p) }
-    ensures { (result.at ≡ keeper (seen area cards) key.value items.now)
-        × ((result.high.value ≡ high_of (seen area cards) items.now result.at)
+    ensures { (result.at ≡ keeper (seen area.now cards.old) key.value items.now)
+        × ((result.high.value ≡ high_of (seen area.now cards.old) items.now result.at)
         × (cards.new
-        ≡ hung_row (table_in area p) (slice_at (seen area cards) p from.value items.now result.at) cards.old)) }
+        ≡ hung_row (table_in area p) (slice_at (seen area.now cards.old) p from.value items.now result.at) cards.old)) }
 {
     let at = range::keeper_of(area, cards, items, key);
     let low = range::low_end(area, cards, items, at, from);

@@ -9,7 +9,7 @@ use read::level;
 // The table that is responsible for a key: the first whose span does not end below it, or else the last.
 pub fn keeper_of(area: &[u8], cards: &[Row], items: &[u16], key: Key) -> usize
     requires { Among area.now cards.now items.now 0 }
-    ensures { result ≡ keeper (seen area cards) key.value items.now }
+    ensures { result ≡ keeper (seen area.now cards.now) key.value items.now }
 {
     let i = level::count_passed(area, cards, items, key);
     if i < items.len() { i } else { items.len() - 1 }
@@ -18,7 +18,7 @@ pub fn keeper_of(area: &[u8], cards: &[Row], items: &[u16], key: Key) -> usize
 // From where the i-th table is responsible: one above the previous span's end, for the first from the key given.
 pub fn low_end(area: &[u8], cards: &[Row], items: &[u16], i: usize, from: Key) -> Key
     requires { Among area.now cards.now items.now i }
-    ensures { result.value ≡ low_of (seen area cards) from.value items.now i }
+    ensures { result.value ≡ low_of (seen area.now cards.now) from.value items.now i }
 {
     if i == 0 {
         return from;
@@ -32,7 +32,7 @@ pub fn low_end(area: &[u8], cards: &[Row], items: &[u16], i: usize, from: Key) -
 // To where the i-th table is responsible: its own span's end, for the last the greatest key.
 pub fn high_end(area: &[u8], cards: &[Row], items: &[u16], i: usize) -> Key
     requires { Among area.now cards.now items.now i }
-    ensures { result.value ≡ high_of (seen area cards) items.now i }
+    ensures { result.value ≡ high_of (seen area.now cards.now) items.now i }
 {
     if i + 1 == items.len() {
         return Key::GREATEST;

@@ -37,7 +37,7 @@ bytes_out tables = flat (map table_bytes tables)
 -- ---- the same over the parameters of a call, at its entry
 
 abbrev pub store_held : (area : Words) → (cards : Rows) → (lists : Words) → Head → Store
-store_held area cards lists head = store_of (held_beside area cards lists head [])
+store_held area cards lists head = store_of (held_beside area.entry.now cards.entry.now lists.entry.now head [])
 
 abbrev pub tables_out_of : (area : Words) → (cards : Rows) → (lists : Words) → Head → (level place : ℕ) → List (List Entry)
 tables_out_of area cards lists head n p = merged_tables (store_held area cards lists head) n p

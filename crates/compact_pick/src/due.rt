@@ -24,14 +24,14 @@ use book::{list, row};
 use read::place;
 
 // What is wanted of a table: that its merge is due, by this threshold or by weight, or that it has no links.
-#[derive(Drop)]
+#[derive(Clone, Copy)]
 pub enum Wanted {
     DueBy(u64),
     Bare,
 }
 
 // A level and a place on it.
-#[derive(Drop)]
+#[derive(Clone, Copy)]
 pub enum Due {
     At(usize, usize),
     Nothing,
@@ -111,7 +111,7 @@ fn count_looked_at(head: Head, suspect: usize, n: usize) -> usize
 // The due table of the lowest level, and there of the lowest keys. `suspect` is the one level that can have any, or says nothing.
 pub fn find_due(area: &[u8], cards: &[Row], lists: &[u16], head: Head, suspect: usize) -> Due
     requires { Levels area.now cards.now lists.now (head_words head) }
-    ensures { (s : Store) → ToldBy s (held_beside area cards lists head []) → CalmBut suspect s → the_due result ≡ due_table s }
+    ensures { (s : Store) → ToldBy s (held_beside area.now cards.now lists.now head []) → CalmBut suspect s → the_due result ≡ due_table s }
 {
     let mut n = 1;
     while n < LEVELS {

@@ -2,6 +2,8 @@
 //
 // The level is found by the lists' lengths, the due merge by the rows and, of tables with links, their entry counts: of those levels
 // alone that can have one, which a run remembers from step to step. Nothing here changes the store.
+#![tactic(auto)]
+
 ghost use Rattle.std.specs.Prelude.{◌≡◌, []};
 ghost use Rattle.ldc.specs.Store.{Store};
 ghost use Rattle.book.specs.Head.{head_words};
@@ -23,7 +25,7 @@ mod due;
 mod level;
 
 // What is to be done: nothing, take a table of a level one level down, or merge a table of a level; level and place.
-#[derive(Drop)]
+#[derive(Clone, Copy)]
 pub enum Plan {
     Idle,
     Down(usize, usize),
@@ -36,7 +38,7 @@ pub const ANY_LEVEL: usize = LEVELS;
 // The plan of a sound store. `suspect` is the one level that can have due merges, 0 where none can, or `ANY_LEVEL`.
 pub fn make_plan(area: &[u8], cards: &[Row], lists: &[u16], head: Head, suspect: usize) -> Plan
     requires { Levels area.now cards.now lists.now (head_words head) }
-    ensures { (s : Store) → ToldBy s (held_beside area cards lists head []) → CalmBut suspect s → result ≡ plan_of s }
+    ensures { (s : Store) → ToldBy s (held_beside area.now cards.now lists.now head []) → CalmBut suspect s → result ≡ plan_of s }
 {
     if let Due::At(n, p) = due::find_due(area, cards, lists, head, suspect) {
         return Plan::Merge(n, p);

@@ -1,4 +1,6 @@
 // Flush: the memory table is written to a place, newest on level 0, and emptied.
+#![tactic(auto)]
+
 ghost use Rattle.std.specs.Prelude.{◌≡◌};
 ghost use Rattle.ldc.specs.Lent.{store_of, lent_of};
 ghost use Rattle.ldc.specs.Place.{serve_flush};
@@ -14,7 +16,7 @@ use table_builder::place;
 use wire::results;
 
 // What a flush gives: its result, and the head after it.
-#[derive(Drop)]
+#[derive(Clone, Copy)]
 pub struct Flushed {
     pub result: u16,
     pub head: Head,
@@ -28,10 +30,10 @@ pub fn flush(
     head: Head,
     memory: &mut [u8],
 ) -> Flushed
-    requires { Writable (given area cards lists head memory) }
-    ensures { (result.result ≡ (serve_flush (store_of (held area cards lists head memory))).result)
+    requires { Writable (given area.old cards.old lists.old head memory.old) }
+    ensures { (result.result ≡ (serve_flush (store_of (held area.old cards.old lists.old head memory.old))).result)
         × (left area cards lists result.head memory
-        ≡ lent_of (serve_flush (store_of (held area cards lists head memory))).store) }
+        ≡ lent_of (serve_flush (store_of (held area.old cards.old lists.old head memory.old))).store) }
 {
     if search::count(memory) == 0 {
         return Flushed {

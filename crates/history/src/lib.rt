@@ -1,5 +1,7 @@
 // A history: a store made over lent memory, and runs performed on it one after the other. The contract is demand 3, of what memory and answers
 // then hold.
+#![tactic(auto)]
+
 ghost use Rattle.std.specs.Prelude.{◌≤◌, ◌≡◌, true, length};
 ghost use Rattle.book.specs.Pieces.{after, before};
 ghost use Rattle.history_lists.specs.Pieces.{pieces_before, pieces_after, ready, AllReady};
@@ -11,7 +13,7 @@ use table::limits::PlaceBytes;
 use wire::results;
 
 // What a history returns: the number of making the store, and how many runs were performed.
-#[derive(Drop)]
+#[derive(Clone, Copy)]
 pub struct Done {
     pub number: u64,
     pub runs: usize,
@@ -32,7 +34,7 @@ fn run_one(
     k: usize,
 )
     requires { ready (length input.now) ends.now (length answers.old) stops.now (length served.old) k ≡ true }
-    ensures { RanOne (before area cards lists head memory) (pieces_before input ends answers stops served) k
+    ensures { RanOne (before area.old cards.old lists.old head.old memory.old) (pieces_before input ends answers stops served) k
         (after area cards lists head memory) (pieces_after input ends answers stops served) }
 {
     let from = history_lists::start(ends, k);
@@ -67,7 +69,7 @@ pub fn run_all(
     n: usize,
 )
     requires { (from ≤ n) × AllReady (length input.now) ends.now (length answers.old) stops.now (length served.old) n }
-    ensures { Ran (before area cards lists head memory) (pieces_before input ends answers stops served) from n
+    ensures { Ran (before area.old cards.old lists.old head.old memory.old) (pieces_before input ends answers stops served) from n
         (after area cards lists head memory) (pieces_after input ends answers stops served) }
 {
     let mut k = from;
@@ -96,7 +98,7 @@ pub fn perform(
     stops: &[usize],
     served: &mut [usize],
 ) -> Done
-    ensures { Performs (before area cards lists head memory) threshold (pieces_before input ends answers stops served)
+    ensures { Performs (before area.old cards.old lists.old head.old memory.old) threshold (pieces_before input ends answers stops served)
         result.number result.runs
         (after area cards lists head memory) (pieces_after input ends answers stops served) }
 {

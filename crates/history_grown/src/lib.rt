@@ -1,5 +1,7 @@
 // A history with an opening in it: a store over the first places of what is lent is saved, opened over all places, and goes on there. The contract
 // is demand 3 of all of it.
+#![tactic(auto)]
+
 ghost use Rattle.std.specs.Prelude.{◌≤◌, min, ◌≡◌, length};
 ghost use Rattle.ldc.specs.Layout.{most_places};
 ghost use Rattle.book.specs.Pieces.{after, before};
@@ -81,7 +83,7 @@ fn run_and_save(
     buffer: &mut [u8],
 ) -> usize
     requires { AllReady (length input.now) ends.now (length answers.old) stops.now (length served.old) n }
-    ensures { RanSaved (before area cards lists head memory) threshold (pieces_before input ends answers stops served) n buffer.old result
+    ensures { RanSaved (before area.old cards.old lists.old head.old memory.old) threshold (pieces_before input ends answers stops served) n buffer.old result
         (after area cards lists head memory) (pieces_after input ends answers stops served) buffer.new }
 {
     store_make::make(area, cards, lists, head, memory, threshold);
@@ -115,7 +117,7 @@ pub fn perform_grown(
     served: &mut [usize],
 ) -> Done
     ensures { PerformsGrown
-        (handed (before area cards lists head memory) (pieces_before input ends answers stops served) buffer.old working.old)
+        (handed (before area.old cards.old lists.old head.old memory.old) (pieces_before input ends answers stops served) buffer.old working.old)
         threshold first earlier result.number result.runs
         (handed (after area cards lists head memory) (pieces_after input ends answers stops served) buffer.new working.new) }
 {

@@ -2,7 +2,7 @@
 use Rattle.std.specs.Prelude.{ℕ, zero, suc, ◌+◌, ◌-◌, ◌<◌, ◌≡◌, List, [], ◌∷◌, ◌++◌, Bool, true, false, ◌&&◌, leb, ltb, length, get_or, take, drop}
 use Rattle.std.proofs.Math.Option
 use Rattle.ldc.specs.Run.{split}
-use Rattle.book.specs.Pieces.{Words}
+use Rattle.book.specs.Pieces.{Words, MutWords}
 use Rattle.ldc.specs.History.{Call, Event, replies_at, paired}
 
 -- The request lists of all runs, one behind the other, and where each ends; their answer buffers and where each stops; how many each run served.
@@ -17,11 +17,11 @@ abbrev pub pieces : (input ends answers stops served : List ℕ) → Pieces
 pieces input ends answers stops served = record { input = input; ends = ends; answers = answers; stops = stops; served = served }
 
 -- Those of a call: before it, and after it, with answers and numbers as they are then.
-abbrev pub pieces_before : (input ends answers stops served : Words) → Pieces
+abbrev pub pieces_before : (input ends : Words) → (answers : MutWords) → (stops : Words) → (served : MutWords) → Pieces
 pieces_before input ends answers stops served =
     pieces input.entry.now ends.entry.now answers.entry.now stops.entry.now served.entry.now
 
-abbrev pub pieces_after : (input ends answers stops served : Words) → Pieces
+abbrev pub pieces_after : (input ends : Words) → (answers : MutWords) → (stops : Words) → (served : MutWords) → Pieces
 pieces_after input ends answers stops served =
     pieces input.entry.now ends.entry.now answers.exit.now stops.entry.now served.exit.now
 

@@ -1,4 +1,6 @@
 // Pieces of a byte list, one behind the other, told by their ends.
+#![tactic(auto)]
+
 ghost use Rattle.std.specs.Prelude.{◌≡◌, ◌≤◌, length};
 ghost use Rattle.history_lists.specs.Pieces.{start_of, end_good, Runs};
 

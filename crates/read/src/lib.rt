@@ -2,6 +2,8 @@
 // be like.
 //
 // `read_get` looks one key up, `read_gather` and `read_iterator` take keys in order. Nothing here changes the store.
+#![tactic(auto)]
+
 pub mod found;
 pub mod level;
 pub mod place;

@@ -5,7 +5,7 @@ use Rattle.ldc.specs.Lists.{flat}
 use Rattle.ldc.specs.Store.{Store, sources}
 use Rattle.ldc.specs.Layout.{items_in}
 use Rattle.book.specs.Head.{head_words}
-use Rattle.book.specs.Pieces.{Words, Rows}
+use Rattle.book.specs.Pieces.{Words, Rows, MutWords}
 use Rattle.book.specs.Rows.{shown_by}
 use Rattle.book.specs.declared.head.Head.{Head}
 use Rattle.read_gather.specs.Sources.{TakenAll}
@@ -31,6 +31,6 @@ abbrev pub lower_of : (area : Words) → (cards : Rows) → (lists : Words) → 
 lower_of area cards lists head = levels_from area.entry.now cards.entry.now lists.entry.now (head_words head) 3 1
 
 -- Sources were taken in that stand in the area and, behind it, in the memory table.
-abbrev pub TakenBoth : (area memory : Words) → (sources : List (List Entry)) → (keys spots : Words) → (n r : ℕ) → Type 0
+abbrev pub TakenBoth : (area memory : Words) → (sources : List (List Entry)) → (keys spots : MutWords) → (n r : ℕ) → Type 0
 TakenBoth area memory sources keys spots n r =
     TakenAll (area.entry.now ++ memory.entry.now) sources keys.entry.now spots.entry.now n keys.exit.now spots.exit.now r

@@ -2,7 +2,7 @@
 use Rattle.std.specs.Prelude.{ℕ, ◌≤◌, List, [], ◌∷◌, ◌++◌, map, length, take}
 use Rattle.table.specs.Entry.{Entry}
 use Rattle.ldc.specs.Store.{within}
-use Rattle.book.specs.Pieces.{Words}
+use Rattle.book.specs.Pieces.{Words, MutWords}
 use Rattle.read_gather.specs.Beside.{Rises}
 use Rattle.read_gather.specs.Gathered.{intake, Gathers}
 
@@ -25,6 +25,6 @@ pub record TakenAll (area : List ℕ) (sources : List (List Entry)) (keys spots 
 
 -- ---- the same over the parameters of a call, the arrays at its entry and at its exit
 
-abbrev pub TakenFrom : (area : Words) → (sources : List (List Entry)) → (keys spots : Words) → (n r : ℕ) → Type 0
+abbrev pub TakenFrom : (area : Words) → (sources : List (List Entry)) → (keys spots : MutWords) → (n r : ℕ) → Type 0
 TakenFrom area sources keys spots n r =
     TakenAll area.entry.now sources keys.entry.now spots.entry.now n keys.exit.now spots.exit.now r

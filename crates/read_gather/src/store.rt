@@ -56,10 +56,10 @@ pub fn in_store(
     spots: &mut [u64],
     n: usize,
 ) -> usize
-    requires { Readable (given area cards lists head memory)
+    requires { Readable (given area.now cards.now lists.now head memory.now)
         × ((0 < length keys.old) × InUse keys.old spots.old n) }
     ensures { TakenBoth area memory
-        (ranges low.value high.value (read_order (store_of (held area cards lists head memory))))
+        (ranges low.value high.value (read_order (store_of (held area.now cards.now lists.now head memory.now))))
         keys spots n result }
 {
     let lower = in_lower(area, cards, lists, head, low, high, keys, spots, n);

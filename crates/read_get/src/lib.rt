@@ -1,5 +1,7 @@
 // Look-up: the first entry met in the read order decides, memory first, then level 0 newest first, then levels 1, 2 and 3. One walk finds
 // it and counts the tables that it opens; a look-up is that walk without its counts.
+#![tactic(auto)]
+
 ghost use Rattle.std.specs.Prelude.{◌≡◌, ◌+◌, length};
 ghost use Rattle.table.specs.Search as seeking;
 ghost use Rattle.ldc.specs.Lists.{flat};
@@ -31,7 +33,7 @@ mod tables;
 use opened::Opened;
 
 // Where the deciding entry stands; how many tables were opened to find it, and how many bits are set in their summaries.
-#[derive(Drop)]
+#[derive(Clone, Copy)]
 pub struct Probed {
     pub spot: Spot,
     pub tables: usize,
@@ -87,14 +89,14 @@ pub fn probe(
     memory: &[u8],
     key: Key,
 ) -> Probed
-    requires { Readable (given area cards lists head memory) }
+    requires { Readable (given area.now cards.now lists.now head memory.now) }
     ensures { SpotsIn area memory
-        (seeking.find key.value (flat (read_order (store_of (held area cards lists head memory)))))
+        (seeking.find key.value (flat (read_order (store_of (held area.now cards.now lists.now head memory.now)))))
         result.spot
-        × ((result.tables ≡ length (opened (store_of (held area cards lists head memory)) key.value))
+        × ((result.tables ≡ length (opened (store_of (held area.now cards.now lists.now head memory.now)) key.value))
         × (result.bits
-        ≡ bits_in (store_of (held area cards lists head memory))
-        (opened (store_of (held area cards lists head memory)) key.value))) }
+        ≡ bits_in (store_of (held area.now cards.now lists.now head memory.now))
+        (opened (store_of (held area.now cards.now lists.now head memory.now)) key.value))) }
 {
     if let Found::At(at) = search::find(memory, key) {
         return Probed {
@@ -127,9 +129,9 @@ pub fn look_up(
     memory: &[u8],
     key: Key,
 ) -> Spot
-    requires { Readable (given area cards lists head memory) }
+    requires { Readable (given area.now cards.now lists.now head memory.now) }
     ensures { SpotsIn area memory
-        (seeking.find key.value (flat (read_order (store_of (held area cards lists head memory)))))
+        (seeking.find key.value (flat (read_order (store_of (held area.now cards.now lists.now head memory.now)))))
         result }
 {
     let told = probe(area, cards, lists, head, memory, key);

@@ -5,7 +5,7 @@ ghost use Rattle.read_get.specs.Opens.{joined};
 
 // Was an entry found, and where does it stand: place and position; how many tables were opened up to it, and how many bits are set in their
 // summaries.
-#[derive(Drop)]
+#[derive(Clone, Copy)]
 pub struct Opened {
     pub found: bool,
     pub place: usize,

@@ -3,7 +3,7 @@ use Rattle.std.specs.Prelude.{ℕ, List, ◌++◌, length, take, drop}
 use Rattle.table.specs.Entry.{Entry}
 use Rattle.ldc.specs.Lists.{keep}
 use Rattle.ldc.specs.Read.{holds_value}
-use Rattle.book.specs.Pieces.{Words}
+use Rattle.book.specs.Pieces.{Words, MutWords}
 use Rattle.read_gather.specs.Gathered.{Gathers}
 
 -- Some entries without the delete marks from the i-th on.
@@ -15,6 +15,6 @@ pub record Sifted (bytes keys spots : List ℕ) (from n : ℕ) (keys' spots' : L
   pub gathers : (es : List Entry) → Gathers bytes keys spots n es → Gathers bytes keys' spots' r (values_from from es)
 
 -- After a call the arrays hold the first of some values, as many as there is room for: the keys, and where in area or memory table they stand.
-abbrev pub HoldFirst : (area memory keys spots : Words) → (r : ℕ) → (values : List Entry) → Type 0
+abbrev pub HoldFirst : (area memory : Words) → (keys spots : MutWords) → (r : ℕ) → (values : List Entry) → Type 0
 HoldFirst area memory keys spots r values =
     Gathers (area.entry.now ++ memory.entry.now) keys.exit.now spots.exit.now r (take (length keys.entry.now) values)

@@ -1,4 +1,6 @@
 // The values of a store from a key on, keys rising: as many as two arrays have room for.
+#![tactic(auto)]
+
 ghost use Rattle.std.specs.Prelude.{◌≡◌, ◌++◌, ◌≤◌, ◌<◌, length, take};
 ghost use Rattle.ldc.specs.Store.{within};
 ghost use Rattle.ldc.specs.Lent.{store_of};
@@ -59,10 +61,10 @@ pub fn next_values(
     keys: &mut [u64],
     spots: &mut [u64],
 ) -> usize
-    requires { Readable (given area cards lists head memory)
+    requires { Readable (given area.now cards.now lists.now head memory.now)
         × ((0 < length keys.old) × (length spots.old ≡ length keys.old)) }
     ensures { HoldFirst area memory keys spots result
-        (within from.value high.value (contents (store_of (held area cards lists head memory)))) }
+        (within from.value high.value (contents (store_of (held area.now cards.now lists.now head memory.now)))) }
 {
     let mut kept = 0;
     let mut low = from.value;

@@ -8,7 +8,7 @@ use coding::key::Key;
 use coding::{key, number};
 
 // The keys of a reading on a line.
-#[derive(Drop)]
+#[derive(Clone, Copy)]
 pub enum KeyRange {
     // From the first to the second, both included.
     Between(Key, Key),

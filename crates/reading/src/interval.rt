@@ -8,14 +8,14 @@ use super::float;
 use coding::key;
 
 // A distance along a line, as a crawler gives it.
-#[derive(Drop)]
+#[derive(Clone, Copy)]
 pub enum Reading {
     Millimetres(u64),
     Kilometres(f32),
 }
 
 // The millimetres of a reading.
-#[derive(Drop)]
+#[derive(Clone, Copy)]
 pub enum Interval {
     // From the first to the second, both included.
     Between(u64, u64),

@@ -11,7 +11,7 @@ use coding::number;
 use table::{entry, limits, valid};
 
 // Where a field ends, which is where the next begins.
-#[derive(Drop)]
+#[derive(Clone, Copy)]
 pub enum End {
     At(usize),
     Broken,

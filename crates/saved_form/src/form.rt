@@ -13,14 +13,14 @@ use book::limits;
 use coding::number;
 
 // Where the parts of a saved book stand: how many places it has, where its lists begin, and its memory entries with their count.
-#[derive(Drop)]
+#[derive(Clone, Copy)]
 pub struct Parts {
     pub places: usize,
     pub lists: usize,
     pub memory: usize,
 }
 
-#[derive(Drop)]
+#[derive(Clone, Copy)]
 pub enum Form {
     Book(Parts),
     Broken,

@@ -1,6 +1,8 @@
 // Writing the bytes of a saved book (document 02, note 4): how many they are, and the bytes, into a buffer that has room for them.
 //
 // Each function writes from a position on and gives the position behind what it wrote.
+#![tactic(auto)]
+
 ghost use Rattle.std.specs.Prelude.{◌≡◌, ℕ, ◌*◌, ◌≤◌, List, length};
 ghost use Rattle.std.proofs.lemmas.List.Edits.{sets};
 ghost use Rattle.ldc.specs.Layout.{level_count};

@@ -1,6 +1,8 @@
 // One request of a kept store: refused by its number, in the order of the numbers, or done, with its reply to the byte.
 //
 // The reply is written into the answer buffer from a position on; the caller has seen to room for the longest.
+#![tactic(auto)]
+
 ghost use Rattle.std.specs.Prelude.{◌≡◌};
 ghost use Rattle.ldc.specs.Lent.{store_of};
 ghost use Rattle.book.specs.Pieces.{given, held, left};
@@ -29,11 +31,11 @@ pub fn serve(
     answer: &mut [u8],
     at: usize,
 ) -> Turn
-    requires { Writable (given area cards lists head memory)
-        × (Room answer.old at × CalmBut suspect (store_of (given area cards lists head memory))) }
+    requires { Writable (given area.old cards.old lists.old head memory.old)
+        × (Room answer.old at × CalmBut suspect (store_of (given area.old cards.old lists.old head memory.old))) }
     ensures { (turn (left area cards lists result.head memory) answer.new result.written
-        ≡ turned_by (held area cards lists head memory) (request kind body.now) answer.old at)
-        × (result.suspect ≡ suspect_after suspect (store_of (held area cards lists head memory)) (request kind body.now)) }
+        ≡ turned_by (held area.old cards.old lists.old head memory.old) (request kind body.now) answer.old at)
+        × (result.suspect ≡ suspect_after suspect (store_of (held area.old cards.old lists.old head memory.old)) (request kind body.now)) }
 {
     if !body::is_good(kind, body.len()) {
         return Turn {

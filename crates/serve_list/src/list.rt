@@ -14,7 +14,7 @@ use table::entry;
 use wire::reply;
 
 // How far serving a list came: the head after it, how many requests were served, and how many bytes were written.
-#[derive(Drop)]
+#[derive(Clone, Copy)]
 pub struct Reached {
     pub head: Head,
     pub served: usize,
@@ -32,11 +32,11 @@ pub fn serve_all(
     list: &[u8],
     answer: &mut [u8],
 ) -> Reached
-    requires { Writable (given area cards lists head memory)
+    requires { Writable (given area.old cards.old lists.old head memory.old)
         × (is_some (split list.now) ≡ true) }
     ensures { ran 0 result.served result.written (left area cards lists result.head memory) answer.new
         ≡ accepted_run
-        (serve_all (length answer.old) (store_of (held area cards lists head memory)) (requests_of list.now))
+        (serve_all (length answer.old) (store_of (held area.old cards.old lists.old head memory.old)) (requests_of list.now))
         answer.old }
 {
     let mut reached = head;

@@ -27,12 +27,12 @@ pub fn serve_next(
     answer: &mut [u8],
     written: usize,
 ) -> Turn
-    requires { Writable (given area cards lists head memory)
+    requires { Writable (given area.old cards.old lists.old head memory.old)
         × ((whole_at list.now at ≡ true)
-        × (Room answer.old written × CalmBut suspect (store_of (given area cards lists head memory)))) }
+        × (Room answer.old written × CalmBut suspect (store_of (given area.old cards.old lists.old head memory.old)))) }
     ensures { (turn (left area cards lists result.head memory) answer.new result.written
-        ≡ turned_by (held area cards lists head memory) (request_at list.now at) answer.old written)
-        × (result.suspect ≡ suspect_after suspect (store_of (held area cards lists head memory)) (request_at list.now at)) }
+        ≡ turned_by (held area.old cards.old lists.old head memory.old) (request_at list.now at) answer.old written)
+        × (result.suspect ≡ suspect_after suspect (store_of (held area.old cards.old lists.old head memory.old)) (request_at list.now at)) }
 {
     let kind = entry::kind_at(list, at);
     let start = at + list::REQUEST_HEAD;

@@ -1,4 +1,6 @@
 // Requests that read, with their replies.
+#![tactic(auto)]
+
 pub mod look_up;
 pub mod probe;
 pub mod report;

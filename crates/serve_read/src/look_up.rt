@@ -47,8 +47,8 @@ pub fn look_up_reply(
     answer: &mut [u8],
     at: usize,
 ) -> usize
-    requires { Readable (given area cards lists head memory) × Room answer.old at }
-    ensures { Wrote answer at (replied look_up_kind (serve_look_up (store_of (held area cards lists head memory)) key.value)) result }
+    requires { Readable (given area.now cards.now lists.now head memory.now) × Room answer.old at }
+    ensures { Wrote answer at (replied look_up_kind (serve_look_up (store_of (held area.now cards.now lists.now head memory.now)) key.value)) result }
 {
     let spot = read_get::look_up(area, cards, lists, head, memory, key);
     match spot {

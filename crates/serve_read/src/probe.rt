@@ -86,8 +86,8 @@ pub fn probe_reply(
     answer: &mut [u8],
     at: usize,
 ) -> usize
-    requires { Readable (given area cards lists head memory) × Room answer.old at }
-    ensures { Wrote answer at (replied probe_kind (serve_probe (store_of (held area cards lists head memory)) key.value)) result }
+    requires { Readable (given area.now cards.now lists.now head memory.now) × Room answer.old at }
+    ensures { Wrote answer at (replied probe_kind (serve_probe (store_of (held area.now cards.now lists.now head memory.now)) key.value)) result }
 {
     let told = read_get::probe(area, cards, lists, head, memory, key);
     let tables = told.tables as u16;

@@ -15,7 +15,7 @@ use wire::{kinds, reply, results};
 const REPORT_BODY: usize = 16;
 
 // Counts over all cards.
-#[derive(Drop)]
+#[derive(Clone, Copy)]
 pub struct Tally {
     pub free: usize,
     pub frozen: usize,

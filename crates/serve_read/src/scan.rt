@@ -82,8 +82,8 @@ pub fn scan_reply(
     answer: &mut [u8],
     at: usize,
 ) -> usize
-    requires { Readable (given area cards lists head memory) × Room answer.old at }
-    ensures { Wrote answer at (replied scan_kind (serve_scan (store_of (held area cards lists head memory)) low.value high.value)) result }
+    requires { Readable (given area.now cards.now lists.now head memory.now) × Room answer.old at }
+    ensures { Wrote answer at (replied scan_kind (serve_scan (store_of (held area.now cards.now lists.now head memory.now)) low.value high.value)) result }
 {
     if high.value < low.value {
         reply::write_head(answer, at, kinds::SCAN, results::BAD_RANGE, 0);

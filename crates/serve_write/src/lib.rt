@@ -1,3 +1,5 @@
 // Requests that write, with their replies.
+#![tactic(auto)]
+
 pub mod put;
 pub mod steps;

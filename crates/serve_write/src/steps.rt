@@ -17,7 +17,7 @@ use book::row::Row;
 use wire::{kinds, reply, results};
 
 // What serving gives: the head after it, the level that can have due merges then, and how many bytes the reply has.
-#[derive(Drop)]
+#[derive(Clone, Copy)]
 pub struct Turn {
     pub head: Head,
     pub suspect: usize,
@@ -38,9 +38,9 @@ pub fn flush_reply(
     answer: &mut [u8],
     at: usize,
 ) -> Turn
-    requires { Writable (given area cards lists head memory) × Room answer.old at }
+    requires { Writable (given area.old cards.old lists.old head memory.old) × Room answer.old at }
     ensures { (turn (left area cards lists result.head memory) answer.new result.written
-        ≡ turned flush_kind (serve_flush (store_of (held area cards lists head memory))) answer.old at)
+        ≡ turned flush_kind (serve_flush (store_of (held area.old cards.old lists.old head memory.old))) answer.old at)
         × (result.suspect ≡ suspect) }
 {
     let done = flush::flush(area, cards, lists, head, memory);
@@ -74,11 +74,11 @@ pub fn tidy_reply(
     answer: &mut [u8],
     at: usize,
 ) -> Turn
-    requires { Writable (given area cards lists head memory)
-        × (Room answer.old at × CalmBut suspect (store_of (given area cards lists head memory))) }
+    requires { Writable (given area.old cards.old lists.old head memory.now)
+        × (Room answer.old at × CalmBut suspect (store_of (given area.old cards.old lists.old head memory.now))) }
     ensures { (turn (left_beside area cards lists result.head memory.now) answer.new result.written
-        ≡ turned tidy_kind (serve_tidy (store_of (held area cards lists head memory))) answer.old at)
-        × (result.suspect ≡ calm_after suspect (plan_of (store_of (held area cards lists head memory)))) }
+        ≡ turned tidy_kind (serve_tidy (store_of (held area.old cards.old lists.old head memory.now))) answer.old at)
+        × (result.suspect ≡ calm_after suspect (plan_of (store_of (held area.old cards.old lists.old head memory.now)))) }
 {
     let plan = compact_pick::make_plan(area, cards, lists, head, suspect);
     let next = compact_pick::due_after(plan, suspect);

@@ -1,6 +1,8 @@
 // The store over lent memory, as C and Rust programs call it: make, check, run, save and open.
 //
 // Each function is a proved one under an exported name. A slice is lent as a pointer and a count, an array as a pointer.
+#![tactic(auto)]
+
 ghost use Rattle.std.specs.Prelude.{◌≡◌, get_or};
 ghost use Rattle.ldc.specs.Run.{make, run, letter_of};
 ghost use Rattle.book.specs.Made.{made};
@@ -25,7 +27,7 @@ pub extern "C" fn zilgwern_make(
     memory: &mut PlaceBytes,
     threshold: u64,
 ) -> u64
-    ensures { made result (after area cards lists head memory) ≡ make (before area cards lists head memory) threshold }
+    ensures { made result (after area cards lists head memory) ≡ make (before area.old cards.old lists.old head.old memory.old) threshold }
 {
     store_make::make(area, cards, lists, head, memory, threshold)
 }
@@ -40,7 +42,7 @@ pub extern "C" fn zilgwern_check(
     memory: &PlaceBytes,
     letter: &mut u64,
 ) -> u64
-    ensures { Answers (before area cards lists head memory) result letter.new }
+    ensures { Answers (before area.now cards.now lists.now head.now memory.now) result letter.new }
 {
     let checked = check_store::check(area, cards, lists, head, memory);
     *letter = checked.letter;
@@ -62,8 +64,8 @@ pub extern "C" fn zilgwern_run(
 ) -> u64
     ensures { (ran result (get_or outcome.new 1 0) (get_or outcome.new 2 0)
         (after area cards lists head memory) answer.new
-        ≡ run (before area cards lists head memory) list.now answer.old)
-        × (get_or outcome.new 0 0 ≡ letter_of (before area cards lists head memory) result) }
+        ≡ run (before area.old cards.old lists.old head.old memory.old) list.now answer.old)
+        × (get_or outcome.new 0 0 ≡ letter_of (before area.old cards.old lists.old head.old memory.old) result) }
 {
     let done = store_run::run(area, cards, lists, head, memory, list, answer);
     *outcome = [done.letter, done.served as u64, done.written as u64];
@@ -83,8 +85,8 @@ pub extern "C" fn zilgwern_save(
     outcome: &mut [u64; 2],
 ) -> u64
     ensures { (saving result (get_or outcome.new 1 0) buffer.new
-        ≡ save_book (before area cards lists head memory) buffer.old)
-        × (get_or outcome.new 0 0 ≡ letter_of (before area cards lists head memory) result) }
+        ≡ save_book (before area.now cards.now lists.now head.now memory.now) buffer.old)
+        × (get_or outcome.new 0 0 ≡ letter_of (before area.now cards.now lists.now head.now memory.now) result) }
 {
     let saved = store_save::save::save(area, cards, lists, head, memory, buffer);
     *outcome = [saved.letter, saved.written as u64];
@@ -106,7 +108,7 @@ pub extern "C" fn zilgwern_open(
     letter: &mut u64,
 ) -> u64
     ensures { (opening result (book_after area cards lists head memory)
-        ≡ open_with working.old (before area cards lists head memory) saved.now)
+        ≡ open_with working.old (before area.now cards.old lists.old head.old memory.old) saved.now)
         × ((letter.new ≡ letter_of (opened_over area.now saved.now) result)
         × (working.new ≡ working_after result working.old area.now saved.now)) }
 {

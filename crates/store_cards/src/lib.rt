@@ -1,7 +1,9 @@
 // The cards as a lent slice of structs, one for each place, as a C program sees them.
 //
-// A function that holds a slice of structs is proved by hand, so these are few and thin. `read_card` and `change_card` are the two that
-// reach a card; `load` and `unload` carry all of them to the rows of words that the store works on, and back.
+// `read_card` and `change_card` are the two that reach a card; `load` and `unload` carry all of them to the rows of words that the store works
+// on, and back.
+#![tactic(auto)]
+
 ghost use Rattle.std.specs.Prelude.{◌≡◌, [], ◌<◌, length, get_or, set};
 ghost use Rattle.store_cards.specs.Card.{no_card, words_of, rows_of};
 
@@ -12,7 +14,7 @@ use summary::filter;
 use summary::filter::SUMMARY_BYTES;
 
 // A card: its state, how many links it has, the links, oldest first, and the summary of its table. Any numbers at all may be lent.
-#[derive(Drop)]
+#[derive(Clone, Copy)]
 pub struct Card {
     pub state: u64,
     pub count: u64,

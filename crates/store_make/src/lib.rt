@@ -1,4 +1,6 @@
 // Making a store in lent memory: refused with nothing changed, or all places free and all lists empty.
+#![tactic(auto)]
+
 ghost use Rattle.std.specs.Prelude.{◌≡◌, length};
 ghost use Rattle.table.specs.Table.{zeros};
 ghost use Rattle.ldc.specs.Run.{make};
@@ -45,7 +47,7 @@ pub fn make(
     threshold: u64,
 ) -> u64
     ensures { made result (after area cards lists head memory)
-        ≡ make (before area cards lists head memory) threshold }
+        ≡ make (before area.old cards.old lists.old head.old memory.old) threshold }
 {
     if !sizes::sizes(area.len(), cards.len(), lists.len()) {
         return results::WRONG_SIZES;

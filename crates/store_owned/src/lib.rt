@@ -1,4 +1,6 @@
-// The store of a program that holds its cards by value: who calls these functions lends no slice of structs, and needs no proof by hand.
+// The store of a program that holds its cards by value: who calls these functions lends no slice of structs.
+#![tactic(auto)]
+
 ghost use Rattle.std.specs.Prelude.{◌≡◌};
 ghost use Rattle.ldc.specs.Run.{run, letter_of};
 ghost use Rattle.book.specs.Made.{made};
@@ -17,14 +19,14 @@ use table::limits::PlaceBytes;
 pub const PLACES: usize = 32;
 
 // What making a store gives: the number, and the cards.
-#[derive(Drop)]
+#[derive(Clone, Copy)]
 pub struct Started {
     pub number: u64,
     pub cards: [Card; PLACES],
 }
 
 // What a run gives: what it returns, and the cards.
-#[derive(Drop)]
+#[derive(Clone, Copy)]
 pub struct Continued {
     pub ran: Ran,
     pub cards: [Card; PLACES],
@@ -87,8 +89,8 @@ pub fn go_on(
 ) -> Continued
     requires { rows.old ≡ rows_of cards }
     ensures { ((ran result.ran.number result.ran.served result.ran.written (after area rows lists head memory) answer.new
-        ≡ run (before area rows lists head memory) list.now answer.old)
-        × (result.ran.letter ≡ letter_of (before area rows lists head memory) result.ran.number))
+        ≡ run (before area.old rows.old lists.old head.old memory.old) list.now answer.old)
+        × (result.ran.letter ≡ letter_of (before area.old rows.old lists.old head.old memory.old) result.ran.number))
         × (rows.new ≡ rows_of result.cards) }
 {
     serve(area, cards, rows, lists, head, memory, list, answer)

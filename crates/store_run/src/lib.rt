@@ -1,4 +1,6 @@
 // Running a list of requests over lent memory: refused, or served.
+#![tactic(auto)]
+
 ghost use Rattle.std.specs.Prelude.{◌≡◌, length};
 ghost use Rattle.ldc.specs.Run.{run, letter_of};
 ghost use Rattle.ldc.specs.Layout.{row_size};
@@ -15,7 +17,7 @@ use table::limits::PlaceBytes;
 use wire::{list, reply, results};
 
 // What a run returns. The letter, in ASCII, is that of the first broken rule with number 5, and 0 otherwise.
-#[derive(Drop)]
+#[derive(Clone, Copy)]
 pub struct Ran {
     pub number: u64,
     pub letter: u64,
@@ -83,8 +85,8 @@ pub fn run(
     answer: &mut [u8],
 ) -> Ran
     ensures { (ran result.number result.served result.written (after area cards lists head memory) answer.new
-        ≡ run (before area cards lists head memory) list.now answer.old)
-        × (result.letter ≡ letter_of (before area cards lists head memory) result.number) }
+        ≡ run (before area.old cards.old lists.old head.old memory.old) list.now answer.old)
+        × (result.letter ≡ letter_of (before area.old cards.old lists.old head.old memory.old) result.number) }
 {
     let early = refusal(area.len(), cards.len(), lists.len(), answer.len(), list);
     if early != results::ACCEPTED {

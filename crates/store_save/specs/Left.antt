@@ -2,7 +2,7 @@
 use Rattle.std.specs.Prelude.{ℕ, ◌≡◌, List, cond, ◌||◌, eqb, length}
 use Rattle.ldc.specs.Lent.{Lent}
 use Rattle.ldc.specs.Run.{accepted, unsound}
-use Rattle.book.specs.Pieces.{Words, Rows, lent}
+use Rattle.book.specs.Pieces.{Words, MutWords, MutRows, lent}
 use Rattle.saved_book.specs.Opened.{opened_over}
 use Rattle.saved_book.specs.Calls.{opening, open_with, working_after}
 
@@ -29,14 +29,14 @@ pub record Beside (number cards : ℕ) (area bytes : List ℕ) (p q : Pieces) : 
       ≡ open_with p.working (lent area c p.lists p.head p.memory) bytes
   pub rows : q.working ≡ working_after number p.working area bytes
 
-abbrev pub book_in : (working : Rows) → (lists head memory : Words) → Pieces
+abbrev pub book_in : (working : MutRows) → (lists head memory : MutWords) → Pieces
 book_in working lists head memory =
     record { working = working.entry.now; lists = lists.entry.now; head = head.entry.now; memory = memory.entry.now }
 
-abbrev pub book_out : (working : Rows) → (lists head memory : Words) → Pieces
+abbrev pub book_out : (working : MutRows) → (lists head memory : MutWords) → Pieces
 book_out working lists head memory =
     record { working = working.exit.now; lists = lists.exit.now; head = head.exit.now; memory = memory.exit.now }
 
 -- The five pieces of a call that changes the book and only reads the area, after it.
-abbrev pub book_after : (area : Words) → (cards : Rows) → (lists head memory : Words) → Lent
+abbrev pub book_after : (area : Words) → (cards : MutRows) → (lists head memory : MutWords) → Lent
 book_after area cards lists head memory = lent area.entry.now cards.exit.now lists.exit.now head.exit.now memory.exit.now

@@ -17,7 +17,7 @@ use table::limits::{PLACE_SIZE, PlaceBytes};
 use wire::results;
 
 // What opening returns. The letter, in ASCII, is that of the first broken rule of the store as opened with number 5, and 0 otherwise.
-#[derive(Drop)]
+#[derive(Clone, Copy)]
 pub struct Opened {
     pub number: u64,
     pub letter: u64,
@@ -32,9 +32,9 @@ fn open_into(
     memory: &mut PlaceBytes,
     bytes: &[u8],
 ) -> Opened
-    ensures { (result.number ≡ (open_book (before area rows lists head memory) bytes.now).number)
+    ensures { (result.number ≡ (open_book (before area.now rows.old lists.old head.old memory.old) bytes.now).number)
         × ((result.letter ≡ letter_of (opened_over area.now bytes.now) result.number)
-        × (book_after area rows lists head memory ≡ opened_into result.number (before area rows lists head memory) bytes.now)) }
+        × (book_after area rows lists head memory ≡ opened_into result.number (before area.now rows.old lists.old head.old memory.old) bytes.now)) }
 {
     if !sizes::sizes(area.len(), rows.len(), lists.len()) {
         return Opened {
@@ -145,7 +145,7 @@ pub fn open(
     working: &mut [Row],
 ) -> Opened
     ensures { (opening result.number (book_after area cards lists head memory)
-        ≡ open_with working.old (before area cards lists head memory) bytes.now)
+        ≡ open_with working.old (before area.now cards.old lists.old head.old memory.old) bytes.now)
         × ((result.letter ≡ letter_of (opened_over area.now bytes.now) result.number)
         × (working.new ≡ working_after result.number working.old area.now bytes.now)) }
 {

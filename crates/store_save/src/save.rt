@@ -11,7 +11,7 @@ use table::limits::PlaceBytes;
 use wire::results;
 
 // What saving returns. The letter, in ASCII, is that of the first broken rule with number 5, and 0 otherwise; the saved length is 0 if refused.
-#[derive(Drop)]
+#[derive(Clone, Copy)]
 pub struct Saved {
     pub number: u64,
     pub letter: u64,
@@ -35,8 +35,8 @@ pub fn save(
     memory: &PlaceBytes,
     buffer: &mut [u8],
 ) -> Saved
-    ensures { (saving result.number result.written buffer.new ≡ save_book (before area cards lists head memory) buffer.old)
-        × (result.letter ≡ letter_of (before area cards lists head memory) result.number) }
+    ensures { (saving result.number result.written buffer.new ≡ save_book (before area.now cards.now lists.now head.now memory.now) buffer.old)
+        × (result.letter ≡ letter_of (before area.now cards.now lists.now head.now memory.now) result.number) }
 {
     let checked = check_store::check(area, cards, lists, head, memory);
     if checked.number != results::ACCEPTED {

@@ -2,7 +2,7 @@
 use Rattle.std.specs.Prelude.{ℕ, cond, List, eqb}
 use Rattle.ldc.specs.Lent.{Lent}
 use Rattle.ldc.specs.Run.{wrong_sizes}
-use Rattle.book.specs.Pieces.{Words, lent}
+use Rattle.book.specs.Pieces.{Words, MutWords, lent}
 use Rattle.saved_book.specs.Calls.{Saving, refused_save, save_book}
 use Rattle.store_cards.specs.declared.Card.{Card}
 use Rattle.store_cards.specs.Card.{rows_of}
@@ -17,6 +17,6 @@ unfoldable pub rows_saved : (number : ℕ) → (rows : List (List ℕ)) → (car
 rows_saved number rows cards = cond (eqb number wrong_sizes) rows (rows_of cards)
 
 -- The five pieces of a call that changes the book and only reads the area, after it.
-abbrev pub book_after_over : (area : Words) → (cards : Cards) → (lists head memory : Words) → Lent
+abbrev pub book_after_over : (area : Words) → (cards : Cards) → (lists head memory : MutWords) → Lent
 book_after_over area cards lists head memory =
     lent area.entry.now (rows_of cards.exit.now) lists.exit.now head.exit.now memory.exit.now

@@ -2,6 +2,8 @@
 //
 // Saving carries the cards to them, as the check does, and so before it finds 3 or 5. Opening reads the saved book into them and has it judged
 // there; the cards are written once it is sound, and not before.
+#![tactic(auto)]
+
 ghost use Rattle.std.specs.Prelude.{◌≡◌};
 ghost use Rattle.ldc.specs.Run.{accepted, letter_of};
 ghost use Rattle.book.specs.Pieces.{before};
@@ -28,8 +30,8 @@ fn save_rows(
     memory: &PlaceBytes,
     buffer: &mut [u8],
 ) -> Saved
-    ensures { ((saving result.number result.written buffer.new ≡ save_book (before area rows lists head memory) buffer.old)
-        × (result.letter ≡ letter_of (before area rows lists head memory) result.number))
+    ensures { ((saving result.number result.written buffer.new ≡ save_book (before area.now rows.old lists.now head.now memory.now) buffer.old)
+        × (result.letter ≡ letter_of (before area.now rows.old lists.now head.now memory.now) result.number))
         × (rows.new ≡ rows.old) }
 {
     save::save(area, rows, lists, head, memory, buffer)
@@ -47,8 +49,8 @@ pub fn save(
     buffer: &mut [u8],
 ) -> Saved
     ensures { (saving result.number result.written buffer.new
-        ≡ save_over rows.old (before_over area cards lists head memory) buffer.old)
-        × ((result.letter ≡ letter_of (before_over area cards lists head memory) result.number)
+        ≡ save_over rows.old (before_over area.now cards.now lists.now head.now memory.now) buffer.old)
+        × ((result.letter ≡ letter_of (before_over area.now cards.now lists.now head.now memory.now) result.number)
         × (rows.new ≡ rows_saved result.number rows.old cards.now)) }
 {
     if !store_structs::fits(area.len(), cards.len(), rows.len(), lists.len()) {
@@ -74,7 +76,7 @@ pub fn open(
     bytes: &[u8],
 ) -> Opened
     ensures { (opening result.number (book_after_over area cards lists head memory)
-        ≡ open_with rows.old (before_over area cards lists head memory) bytes.now)
+        ≡ open_with rows.old (before_over area.now cards.old lists.old head.old memory.old) bytes.now)
         × ((result.letter ≡ letter_of (opened_over area.now bytes.now) result.number)
         × ((rows.new ≡ working_after result.number rows.old area.now bytes.now)
         × ((result.number ≡ accepted → ⊥) → cards.new ≡ cards.old))) }

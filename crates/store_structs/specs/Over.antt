@@ -1,11 +1,11 @@
 -- Lent memory whose cards are structs, and working rows beside them: what a call returns, and what it leaves.
 use Rattle.std.specs.Prelude.{ℕ, ◌≡◌, Bool, cond, ◌||◌, List, eqb, length}
-use Rattle.std.specs.Borrow.{Bor}
+use Rattle.std.specs.Borrow.{MutBor}
 use denote.Triple.Both.{Both}
 use Rattle.ldc.specs.Lent.{Lent}
 use Rattle.ldc.specs.Run.{accepted, wrong_sizes, unsound, Made, make, check, Outcome, refused_run, run}
 use Rattle.book.specs.Made.{made}
-use Rattle.book.specs.Pieces.{Words, lent}
+use Rattle.book.specs.Pieces.{MutWords, lent}
 use Rattle.store_cards.specs.declared.Card.{Card}
 use Rattle.store_cards.specs.Card.{rows_of}
 use Rattle.store_run.specs.Early.{early_number}
@@ -42,23 +42,23 @@ pub record Left (number : ℕ) (rows last_rows : List (List ℕ)) (cards last_ca
 
 -- ---- the five pieces of a call, the cards by their words
 
--- A lent slice of cards at the two moments of a call.
+-- A slice of cards lent by `&mut`, at the two moments of a call.
 abbrev pub Cards : Type 0
-Cards = Both (Bor (List Card)) (Bor (List Card))
+Cards = Both (MutBor (List Card)) (MutBor (List Card))
 
-abbrev pub before_over : (area : Words) → (cards : Cards) → (lists head memory : Words) → Lent
-before_over area cards lists head memory =
-    lent area.entry.now (rows_of cards.entry.now) lists.entry.now head.entry.now memory.entry.now
+-- What a call may find lent by `&` or by `&mut` is told by its contents.
+abbrev pub before_over : (area : List ℕ) → (cards : List Card) → (lists head memory : List ℕ) → Lent
+before_over area cards lists head memory = lent area (rows_of cards) lists head memory
 
-abbrev pub after_over : (area : Words) → (cards : Cards) → (lists head memory : Words) → Lent
+abbrev pub after_over : (area : MutWords) → (cards : Cards) → (lists head memory : MutWords) → Lent
 after_over area cards lists head memory =
     lent area.exit.now (rows_of cards.exit.now) lists.exit.now head.exit.now memory.exit.now
 
 -- ---- the same where the cards are had by value
 
-abbrev pub before_with : (area : Words) → List Card → (lists head memory : Words) → Lent
+abbrev pub before_with : (area : MutWords) → List Card → (lists head memory : MutWords) → Lent
 before_with area cards lists head memory =
     lent area.entry.now (rows_of cards) lists.entry.now head.entry.now memory.entry.now
 
-abbrev pub after_with : (area : Words) → List Card → (lists head memory : Words) → Lent
+abbrev pub after_with : (area : MutWords) → List Card → (lists head memory : MutWords) → Lent
 after_with area cards lists head memory = lent area.exit.now (rows_of cards) lists.exit.now head.exit.now memory.exit.now

@@ -4,6 +4,8 @@
 // refused by 1. Numbers 1 to 4 are found before anything is carried over: then nothing that is lent changes. Otherwise the rows are working
 // memory. The cards are carried to them (but not for a new store, which needs no old cards), the proved function works on them, and make and run
 // carry them back where they accept. With 5 the cards stay as they were, and the rows hold their words.
+#![tactic(auto)]
+
 ghost use Rattle.std.specs.Prelude.{◌≡◌, cond, ◌&&◌, List, ℕ, eqb, length};
 ghost use Rattle.ldc.specs.Lent.{Lent, sizes_good};
 ghost use Rattle.ldc.specs.Run.{wrong_sizes, make, letter_of};
@@ -34,8 +36,8 @@ fn make_rows(
 ) -> u64
     ensures { made result (after area rows lists head memory)
         ≡ cond (eqb (length rows.old) cards)
-        (make (before area rows lists head memory) threshold)
-        (made wrong_sizes (before area rows lists head memory)) }
+        (make (before area.old rows.old lists.old head.old memory.old) threshold)
+        (made wrong_sizes (before area.old rows.old lists.old head.old memory.old)) }
 {
     if rows.len() != cards {
         return results::WRONG_SIZES;
@@ -54,7 +56,7 @@ pub fn make(
     threshold: u64,
 ) -> u64
     ensures { (made result (after_over area cards lists head memory)
-        ≡ make_over rows.old (before_over area cards lists head memory) threshold)
+        ≡ make_over rows.old (before_over area.old cards.old lists.old head.old memory.old) threshold)
         × Left result rows.old rows.new cards.old cards.new }
 {
     let number = make_rows(area, cards.len(), rows, lists, head, memory, threshold);
@@ -82,7 +84,7 @@ fn check_rows(
     head: &HeadWords,
     memory: &PlaceBytes,
 ) -> Checked
-    ensures { Answers (before area rows lists head memory) result.number result.letter
+    ensures { Answers (before area.now rows.old lists.now head.now memory.now) result.number result.letter
         × (rows.new ≡ rows.old) }
 {
     check_store::check(area, rows, lists, head, memory)
@@ -97,8 +99,8 @@ pub fn check(
     head: &HeadWords,
     memory: &PlaceBytes,
 ) -> Checked
-    ensures { (result.number ≡ check_over rows.old (before_over area cards lists head memory))
-        × ((result.letter ≡ letter_of (before_over area cards lists head memory) result.number)
+    ensures { (result.number ≡ check_over rows.old (before_over area.now cards.now lists.now head.now memory.now))
+        × ((result.letter ≡ letter_of (before_over area.now cards.now lists.now head.now memory.now) result.number)
         × (rows.new ≡ rows_after result.number rows.old cards.now)) }
 {
     if !fits(area.len(), cards.len(), rows.len(), lists.len()) {
@@ -143,8 +145,8 @@ pub fn run(
     answer: &mut [u8],
 ) -> Ran
     ensures { (ran result.number result.served result.written (after_over area cards lists head memory) answer.new
-        ≡ run_over rows.old (before_over area cards lists head memory) list.now answer.old)
-        × ((result.letter ≡ letter_of (before_over area cards lists head memory) result.number)
+        ≡ run_over rows.old (before_over area.old cards.old lists.old head.old memory.old) list.now answer.old)
+        × ((result.letter ≡ letter_of (before_over area.old cards.old lists.old head.old memory.old) result.number)
         × Left result.number rows.old rows.new cards.old cards.new) }
 {
     let early = refusal_over(

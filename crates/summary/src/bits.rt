@@ -9,7 +9,7 @@ ghost use Rattle.summary.specs.Lanes.{Lanes};
 use coding::key::Key;
 
 // The numbers of a key's three bits, each below 256. They may coincide.
-#[derive(Drop)]
+#[derive(Clone, Copy)]
 pub struct KeyBits {
     pub exclusive: usize,
     pub sum: usize,

@@ -2,5 +2,7 @@
 //
 // A look-up opens only tables whose summary has all three bits of the key. `bits` gives the three bits of a key; `filter` makes a
 // table's summary, tests it for a key, counts its bits and compares it.
+#![tactic(auto)]
+
 pub mod bits;
 pub mod filter;

@@ -1,4 +1,4 @@
-// The next piece of the answers of a list. No descriptor is in it, and its contract leaves nothing open.
+// The next piece of the answers of a list. No writer is in it, and its contract leaves nothing open.
 ghost use Rattle.std.specs.Prelude.{◌≡◌, ◌≤◌, length};
 ghost use Rattle.ldc.specs.Run.{room_limit};
 ghost use Rattle.book.specs.Pieces.{lent, after};
@@ -13,7 +13,7 @@ use store_owned::PLACES;
 use table::limits::PlaceBytes;
 
 // How far a list is served: so many requests, which take so many of its bytes, and whose answers are so many bytes.
-#[derive(Drop)]
+#[derive(Clone, Copy)]
 pub struct Progress {
     pub served: usize,
     pub at: usize,
@@ -21,7 +21,7 @@ pub struct Progress {
 }
 
 // The next piece: the number of its run, the cards after it, how many bytes it has at the buffer's front, and how far the list is then served.
-#[derive(Drop)]
+#[derive(Clone, Copy)]
 pub struct NextPiece {
     pub number: u64,
     pub cards: [Card; PLACES],

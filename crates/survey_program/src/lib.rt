@@ -1,10 +1,16 @@
 // The program `survey` as a function: a new store of 32 places with threshold 4 runs standard input.
-ghost use Rattle.survey_deliver.specs.Whole.{Told};
+#![tactic(auto)]
+
+ghost use Rattle.std.specs.Prelude.{◌≡◌, false};
+ghost use Rattle.std.specs.Io.KnownBytes.{Appends};
+ghost use Rattle.survey_deliver.specs.Whole.{Told, answers_of};
 
 use book::head::HEAD_WORDS;
 use book::limits::LEVELS;
 use book::row::ROW_WORDS;
-use libc::{STDIN_FILENO, STDOUT_FILENO};
+use noted::Noted;
+use std::io;
+use std::io::Write;
 use store_owned::PLACES;
 use survey_deliver::deliver;
 use survey_deliver::deliver::Delivered;
@@ -12,6 +18,7 @@ use table::limits::PLACE_SIZE;
 use wire::list::LIST_LIMIT;
 
 mod input;
+mod noted;
 
 // A table with so many links is merged.
 pub const THRESHOLD: u64 = 4;
@@ -24,9 +31,10 @@ const LIST_ROOM: usize = LEVELS * PLACES;
 // One byte more than a list may have is read, so that a longer one is seen.
 const INPUT_BYTES: usize = LIST_LIMIT + 1;
 
-// Runs a list over a new store and writes its answers to a descriptor.
-pub fn survey_list(fd: i32, list: &[u8]) -> Delivered
-    ensures { Told list.now result.number result.served result.written result.failed }
+// Runs a list over a new store and writes its answers to a writer.
+pub fn survey_list<W: Write>(out: &mut W, list: &[u8]) -> Delivered
+    ensures told { Told list.now result.number result.served result.written result.failed }
+    ensures handed_on { result.failed ≡ false → Appends (W.contents out.old) (W.contents out.new) (answers_of list.now) }
 {
     let mut area = [0u8; AREA_BYTES];
     let blank = store_cards::card_of([0u64; ROW_WORDS]);
@@ -45,7 +53,7 @@ pub fn survey_list(fd: i32, list: &[u8]) -> Delivered
     );
     let first = made.cards;
     deliver::deliver(
-        fd,
+        out,
         &mut area,
         first,
         &mut rows,
@@ -57,16 +65,26 @@ pub fn survey_list(fd: i32, list: &[u8]) -> Delivered
 }
 
 // Runs standard input and writes the answers to standard output.
-pub fn survey() {
+pub fn survey(rt: &HostRuntime) {
     let mut space = [0u8; INPUT_BYTES];
-    let got = input::read_all(STDIN_FILENO, &mut space);
+    let mut from = Noted::new(rt.stdin());
+    let got = input::read_all(&mut from, &mut space);
     if got.failed {
-        os::fail(b"survey: standard input");
+        fail(rt, "survey: standard input", from.error);
         return;
     }
     let n = got.length;
-    let done = survey_list(STDOUT_FILENO, &space[..n]);
+    let mut to = Noted::new(rt.stdout());
+    let done = survey_list(&mut to, &space[..n]);
     if done.failed {
-        os::fail(b"survey: standard output");
+        fail(rt, "survey: standard output", to.error);
     }
+}
+
+// Writes a line to standard error: what failed, and why.
+fn fail(rt: &impl Eprint, what: &str, why: Option<io::Error>) {
+    let _ = match why {
+        Some(e) => eprintln!(rt; "{what}: {e}"),
+        None => eprintln!(rt; "{what}"),
+    };
 }

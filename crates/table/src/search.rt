@@ -9,14 +9,14 @@ use coding::key::Key;
 use coding::number;
 
 // Where an entry was found: the position of its first byte.
-#[derive(Drop)]
+#[derive(Clone, Copy)]
 pub enum Found {
     At(usize),
     Nothing,
 }
 
 // An entry by its index and by the position of its first byte.
-#[derive(Drop)]
+#[derive(Clone, Copy)]
 pub struct EntryAt {
     pub index: usize,
     pub at: usize,

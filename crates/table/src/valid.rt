@@ -10,7 +10,7 @@ use coding::key::Key;
 use coding::number;
 
 // What a judging of entries found: whether they are good, and the key of the last of them, which is the greatest where they are.
-#[derive(Drop)]
+#[derive(Clone, Copy)]
 pub struct Judged {
     pub good: bool,
     pub last: Key,

@@ -1,7 +1,7 @@
 -- The bytes of replies, and what writing one leaves.
 use Rattle.std.specs.Prelude.{ℕ, ◌+◌, ◌≤◌, ◌≡◌, List, ◌++◌, map, length}
 use Rattle.std.proofs.lemmas.List.Edits.{sets}
-use Rattle.std.specs.Borrow.{Bor}
+use Rattle.std.specs.Borrow.{MutBor}
 use denote.Triple.Both.{Both}
 use Rattle.coding.specs.Number.{bytes_of}
 use Rattle.ldc.specs.Lists.{flat}
@@ -30,5 +30,5 @@ pub record Written (before : List ℕ) (at : ℕ) (reply after : List ℕ) (r : 
   pub count : r ≡ length reply
 
 -- The same of a call's answer.
-abbrev pub Wrote : (answer : Both (Bor (List ℕ)) (Bor (List ℕ))) → (at : ℕ) → (reply : List ℕ) → (r : ℕ) → Type 0
+abbrev pub Wrote : (answer : Both (MutBor (List ℕ)) (MutBor (List ℕ))) → (at : ℕ) → (reply : List ℕ) → (r : ℕ) → Type 0
 Wrote answer at reply r = Written answer.entry.now at reply answer.exit.now r

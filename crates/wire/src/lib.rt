@@ -1,4 +1,6 @@
 // The bytes of requests and replies.
+#![tactic(auto)]
+
 pub mod body;
 pub mod kinds;
 pub mod list;
