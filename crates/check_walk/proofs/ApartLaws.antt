@@ -157,6 +157,7 @@ module _ (area : List ℕ) (cards : List (List ℕ)) (z : Sized area cards) wher
   rises-above : (end : ℕ) (items : List ℕ) → names_places (length cards) items ≡ true → tabled area items ≡ true → rises_from (shown_by area cards) end items ≡ true
       → (q : ℕ) → Memᴰ q items → end < span_start (shown_by area cards) q
   unfolding names_places tabled
+  rises-above end [] b t r q x4 = elim x4 [ ]
   rises-above end (p ∷ items) b t r q (Memᴰ.head e) =
       rw e (ltb-true _ _ (and_parts (ltb end (span_start (shown_by area cards) p)) _ r).0)
   rises-above end (p ∷ items) b t r q (Memᴰ.tail m) =

@@ -156,13 +156,13 @@ module _ (m : Lent) (k : Kept m) where
     newest-same : (ps : List ℕ) → map (table (store_of m)) ps ≡ map (λ p. entries (place_of m.area p)) ps
     unfolding table
     newest-same ps =
-        elim ps [ [] ↦ refl | p ∷ (qs → ih) ↦ rw (bytes-shown m (sizes m k.sizes).area p, ih) ]
+        elim ps as (λ qs. map (table (store_of m)) qs ≡ map (λ p. entries (place_of m.area p)) qs) [ [] ↦ refl | p ∷ (qs → ih) ↦ rw (bytes-shown m (sizes m k.sizes).area p, ih) ]
 
     lower-same : (n : ℕ) → n < level_count
         → flat (map (sources (store_of m)) (level (store_of m) n)) ≡ flat (map (sources (shown_by m.area m.cards)) (items_in (length m.cards) m.lists m.head n))
     lower-same n h =
         let same : (ps : List ℕ) → flat (map (sources (store_of m)) ps) ≡ flat (map (sources (shown_by m.area m.cards)) ps) = λ ps.
-        elim ps [ [] ↦ refl | p ∷ (qs → ih) ↦ rw (sym (same-sources m p), ih) ] in
+        elim ps as (λ qs. flat (map (sources (store_of m)) qs) ≡ flat (map (sources (shown_by m.area m.cards)) qs)) [ [] ↦ refl | p ∷ (qs → ih) ↦ rw (sym (same-sources m p), ih) ] in
         rw (level-items m k n h) (same (items_in (length m.cards) m.lists m.head n))
 
     -- Source by source.

@@ -55,7 +55,7 @@ module _ (bytes keys spots : List ℕ) (n : ℕ) (es : List Entry) (g : Gathers 
     at : get_or es i (entry_at bytes 0) ≡ entry_at bytes (get_or spots i 0)
     at =
         let f : ℕ → Entry = entry_at bytes in
-        ap (λ (xs : List Entry). get_or xs i (f 0)) (sym g.shown) ∙ ListN.get_d_map f (take n spots) i 0 ∙ ap f (get_or-take n spots i 0 h)
+        ap (λ (xs : List Entry). get_or xs i (f 0)) (sym g.shown) ∙ ListN.get_or-map f (take n spots) i 0 ∙ ap f (get_or-take n spots i 0 h)
 
     the-entry : drop i es ≡ entry_at bytes (get_or spots i 0) ∷ drop (i + 1) es
     the-entry = drop-cons es i (entry_at bytes 0) inside ∙ rw (at, sym (add-one i))

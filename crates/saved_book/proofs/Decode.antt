@@ -208,9 +208,9 @@ module _ (b : List ℕ) (s : Store) (h : BookShown b s) (places : List (List ℕ
   unfolding opened_rows grown_over
   rows-bare = rw (places-flat, h.rows, h.places) (sym (bare-grown s.cards (length places - size s)))
 
-  opened_rows : summed_rows (opened_rows (places_in (flat places)) b) (chop (places_in (flat places)) (flat places)) ≡ (lent_of (grown_over places s)).cards
+  opened_rows_lem : summed_rows (opened_rows (places_in (flat places)) b) (chop (places_in (flat places)) (flat places)) ≡ (lent_of (grown_over places s)).cards
   unfolding lent_of grown_over card bytes_at
-  opened_rows =
+  opened_rows_lem =
       rw (rows-bare, chopped)
       (summed-rows (grown_over places s).cards places (few-links (grown_over places s) so)
       (λ p f. (so.tables p f).good))
@@ -231,7 +231,7 @@ module _ (b : List ℕ) (s : Store) (h : BookShown b s) (places : List (List ℕ
   unfolding opened_over lent_of grown_over
   opened-shown i = record {
     area = flat places;
-    cards = opened_rows i;
+    cards = opened_rows_lem i;
     lists = opened-lists i;
     head = opened-head i;
     memory = opened-memory i;

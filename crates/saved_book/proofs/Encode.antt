@@ -49,6 +49,7 @@ length-lists_saved (suc n) b at = ap suc (length-lists_saved n b (list_end b at)
 -- No list saved is longer than P.
 pub lists-few : (n : ℕ) (b : List ℕ) (at end : ℕ) → in_turn n (list_to b) at ≡ some end
     → (ps : List ℕ) → Memᴰ ps (lists_saved n b at) → length ps ≤ places_saved b
+lists-few zero b at end h ps x'' = elim x'' [ ]
 lists-few (suc n) b at end h ps (Memᴰ.head e) =
     let t = list-turn b n at end h in
     rw (e, length-items_saved (number_at 2 b at) b (at + 2)) t.0.few

@@ -31,10 +31,12 @@ mark-key flag key k e =
 -- ---- links
 
 none_in : (l : Link) (ls : List Link) → ls ≡ [] → Memᴰ l ls → ⊥
+none_in l [] e m = elim m [ ]
 none_in l (k ∷ ls) e m = let z : suc (length ls) ≡ 0 = ap length e in omega arith
 
 module _ (row : List ℕ) (words : (i : ℕ) → get_or row i 0 < 2 ^ 64) where
   links-high : (n at : ℕ) (l : Link) → Memᴰ l (links_at n row at) → l.high < 2 ^ 64
+  links-high Prim.Native.Nat.zero at l x' = elim x' [ ]
   links-high (suc n) at l (Memᴰ.head e) = rw e (words (at + 2))
   links-high (suc n) at l (Memᴰ.tail m) = links-high n (at + link_size) l m
 
@@ -53,6 +55,7 @@ module _ (m : Lent) (head : (i : ℕ) → get_or m.head i 0 < 2 ^ 64) (rows : (p
   marks-fit : (k : ℕ) → Memᴰ (some k) (store_of m).marks → k < 2 ^ 64
   unfolding store_of
   marks-fit k (Memᴰ.head e) = rw (mark-key _ _ k e) (head 3)
+  marks-fit k (mathlib.Core.List.Memᴰ.tail (mathlib.Core.List.Memᴰ.tail x8)) = elim x8 [ ]
   marks-fit k (Memᴰ.tail (Memᴰ.head e)) = rw (mark-key _ _ k e) (head 5)
 
   links-fit : (p : ℕ) (l : Link) → Memᴰ l (links (store_of m) p) → l.high < 2 ^ 64

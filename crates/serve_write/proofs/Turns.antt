@@ -33,10 +33,10 @@ pub turned_same : {kind kind' : ℕ} {v v' : Served} (answer : List ℕ) (at : �
 turned_same {kind' = kind'} {v = v} answer at ek ev = ap (λ (x : ℕ). turned x v answer at) ek ∙ ap (λ (x : Served). turned kind' x answer at) ev
 
 -- What was served is what the lent store serves.
-pub turned_by : (m : Lent) (kind : ℕ) (body answer : List ℕ) (at : ℕ) {kind' : ℕ} {v : Served} → kind' ≡ kind → v ≡ serve (store_of m) (request kind body)
+pub turned_by_lem : (m : Lent) (kind : ℕ) (body answer : List ℕ) (at : ℕ) {kind' : ℕ} {v : Served} → kind' ≡ kind → v ≡ serve (store_of m) (request kind body)
     → turned kind' v answer at ≡ turned_by m (request kind body) answer at
 unfolding turned_by
-turned_by m kind body answer at ek ev = turned_same answer at ek ev
+turned_by_lem m kind body answer at ek ev = turned_same answer at ek ev
 
 -- A request served without a body.
 pub turn-bare : (kind result : ℕ) (v : Served) (m : Lent) (before after : List ℕ) (at written : ℕ) → result ≡ v.result → v.body ≡ [] → m ≡ lent_of v.store

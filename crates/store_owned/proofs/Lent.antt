@@ -5,7 +5,7 @@ use mathlib.Core.List.{List, [], ◌∷◌}
 use Prim.Native.Nat.{ℕ}
 use lib.Dec.{lit<}
 use seplogic.Ra.Ura.{Ura}
-use seplogic.Ra.TreeShare.{full_share}
+use base.Fraction.{full_share}
 use mir.Syntax.{Ty, named, ty_array}
 use mir.Val.{Val}
 use base.Logic.{ent}
@@ -62,9 +62,9 @@ module _ {M : Type 1} {𝓤 : Ura M} (𝓛 : Logic 𝓤) (l : ℕ) where
   abbrev pub Lending : List Card → Item 𝓤
   Lending cs = later (some (λ (g : Call). ‵ (Slice l g cs) ⊛ ‵ (flft (g.0 ∷ []) full_share) ⊛ ‵ (Kept l g)))
 
-  pub lends-cards : (cs : List Card) → ent 𝓤 (mean 𝓛 (‵ (Cell l cs) ⊛ ‵ (Cards.own cs (cells_of cs ∷ [])))) (mean 𝓛 (Lending cs))
+  pub lends-cards : (cs : List Card) → ent 𝓤 (mean 𝓛 (‵ (Cell l cs) ⊛ ‵ (Cards.own_val cs (cells_of cs ∷ [])))) (mean 𝓛 (Lending cs))
   lends-cards cs =
-      qed 𝓛 (‵ (Cell l cs) ∷ ‵ (Cards.own cs (cells_of cs ∷ [])) ∷ []) ∵ updating ! $
+      qed 𝓛 (‵ (Cell l cs) ∷ ‵ (Cards.own_val cs (cells_of cs ∷ [])) ∷ []) ∵ updating ! $
       lft_new ! tt (λ ν. move ! (1 ∷ 2 ∷ []) $ use2 𝓛 (later (some (λ (δ : GName). ‵ (fsep (Slice l (ν, δ) cs) (Kept l (ν, δ)))))) (array-lends T.the_type T'.the_laws 32 𝓛 (named 1) (ν ∷ []) l 0 room-32 cs (cells_of cs)) $ await ! tt $ pick ! (λ δ. fsplit ! $
       at_once ! $ show ! (λ (g : Call). mean 𝓛 (‵ (Slice l g cs) ⊛ ‵ (flft (g.0 ∷ []) full_share) ⊛ ‵ (Kept l g))) (ν, δ) $ keep ! (0 ∷ 2 ∷ 1 ∷ []) $ done !))
 
@@ -74,5 +74,5 @@ module _ {M : Type 1} {𝓤 : Ura M} (𝓛 : Logic 𝓤) (l : ℕ) where
   pub backs-cards : (g : Call) (cs : List Card) → ent 𝓤 (mean 𝓛 (‵ (finally R g.1 cs) ⊛ ‵ (flft (g.0 ∷ []) full_share) ⊛ ‵ (Kept l g))) (mean 𝓛 (Back cs))
   backs-cards (ν, δ) cs =
       qed 𝓛 (‵ (finally R δ cs) ∷ ‵ (flft (ν ∷ []) full_share) ∷ ‵ (Kept l (ν, δ)) ∷ []) ∵ updating ! $ move ! (1 ∷ []) $ lft_end ! tt $ move ! (0 ∷ 2 ∷ 1 ∷ []) $
-      use3 𝓛 (later (‵ (Cell l cs) ⊛ ‵ (Cards.own cs (cells_of cs ∷ [])))) (array_back T.the_type T'.the_laws 32 𝓛 (named 1) (ν ∷ []) l 0 room-32 δ cs) $ await ! tt $ split ! $
+      use3 𝓛 (later (‵ (Cell l cs) ⊛ ‵ (Cards.own_val cs (cells_of cs ∷ [])))) (array_back T.the_type T'.the_laws 32 𝓛 (named 1) (ν ∷ []) l 0 room-32 δ cs) $ await ! tt $ split ! $
       move ! (1 ∷ []) $ peeks ! Cards (Is Cards) (shows 𝓛 Cards) cs (cells_of cs ∷ []) (λ is. at_once ! $ check ! is $ keep ! (1 ∷ []) $ done !)

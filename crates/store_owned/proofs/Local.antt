@@ -8,7 +8,7 @@ use Prim.Native.Nat.{ℕ}
 use mathlib.Core.List.{List, [], ◌∷◌, map}
 use lib.ListN.{length, length-map}
 use seplogic.Ra.Ura.{Ura}
-use seplogic.Ra.TreeShare.{full_share}
+use base.Fraction.{full_share}
 use mir.Syntax.{Ty, Lifetime, ty_array}
 use mir.Val.{Val}
 use base.Logic.{ent, sep, ex}
@@ -55,11 +55,11 @@ module _ (N : Declared) (L : LL.Laws N) (n : ℕ) where
     abbrev Lent : List N.D → GName → Fml
     Lent xs γ = fsep ((MutSlice ℓ κ R).own_val (at_name b o γ xs) (slice_val (b, o) n ∷ [])) (flent κ (Held R n b o γ))
 
-    pub array-lends : (xs : List N.D) (v : Val) → ent 𝓤 (sep 𝓤 (H.at full_share τ b o v) (sem 𝓛 (All.own xs (v ∷ [])))) (H.⇛ (ex 𝓤 (λ (γ : GName). sem 𝓛 (Lent xs γ))))
+    pub array-lends : (xs : List N.D) (v : Val) → ent 𝓤 (sep 𝓤 (H.at full_share τ b o v) (sem 𝓛 (All.own_val xs (v ∷ [])))) (H.⇛ (ex 𝓤 (λ (γ : GName). sem 𝓛 (Lent xs γ))))
     unfolding part_of
     array-lends xs v =
-        qed 𝓛 (‵ (fat full_share τ b o v) ∷ ‵ (All.own xs (v ∷ [])) ∷ []) ∵ updating ! $ use1 𝓛 (‵ (cell_at full_share All.mir (v ∷ []) b o)) (𝓛.laws.at_raw full_share τ b o v) $ fjoin ! $
-        fpack ! (List Val) (λ us. fsep (cell_at full_share All.mir us b o) (All.own xs us)) (v ∷ []) $
+        qed 𝓛 (‵ (fat full_share τ b o v) ∷ ‵ (All.own_val xs (v ∷ [])) ∷ []) ∵ updating ! $ use1 𝓛 (‵ (cell_at full_share All.mir (v ∷ []) b o)) (𝓛.laws.at_raw full_share τ b o v) $ fjoin ! $
+        fpack ! (List Val) (λ us. fsep (cell_at full_share All.mir us b o) (All.own_val xs us)) (v ∷ []) $
         use1 𝓛 (‵ ((arr_parts (shares R) n).part full_share xs b o)) (Array-apart 𝓛 R full_share tt n xs b o) $ fsplit ! $ feq_l ! (λ e.
         use1 𝓛 (‵ (cells (mem R) xs b o)) (whole_in 𝓛 R xs b o) $
         use1 𝓛 (later (some (λ (γ : GName). ‵ ((MutSlice ℓ κ R).own_val (at_name b o γ xs) (slice_val (b, o) (length xs) ∷ [])) ⊛ ‵ (flent κ (Held R (length xs) b o γ))))) (lends_slice 𝓛 R ℓ κ xs b o (subst (Room R) (sym e) room)) $ await ! tt $ pick ! (λ γ. split ! $
@@ -67,7 +67,7 @@ module _ (N : Declared) (L : LL.Laws N) (n : ℕ) where
         fjoin ! $ at_once ! $ show ! (λ (δ : GName). sem 𝓛 (Lent xs δ)) γ $ done !))
 
     pub array_back : (γ : GName) (zs : List N.D) → ent 𝓤 (sep 𝓤 (A.dead κ) (sep 𝓤 (A.lent κ (Held R n b o γ)) (sem 𝓛 (finally R γ zs))))
-        (H.⇛ (sep 𝓤 (H.at full_share τ b o (machine zs)) (sem 𝓛 (All.own zs (machine zs ∷ [])))))
+        (H.⇛ (sep 𝓤 (H.at full_share τ b o (machine zs)) (sem 𝓛 (All.own_val zs (machine zs ∷ [])))))
     unfolding part_of
     array_back γ zs =
         qed 𝓛 (‵ (fdead κ) ∷ ‵ (flent κ (Held R n b o γ)) ∷ ‵ (finally R γ zs) ∷ []) ∵ updating ! $
@@ -77,7 +77,7 @@ module _ (N : Declared) (L : LL.Laws N) (n : ℕ) where
         use1 𝓛 (‵ (fat full_share τ b o (machine zs))) (𝓛.laws.raw_at full_share τ b o (machine zs)) $ at_once ! $ done !)
 
   -- as a field of a struct the array has its elements' fields for values
-  each-field : (zs : List N.D) (us : List Val) → shadow (each N.D R.own zs us) → shadow (each (Denots (fields N)) (Struct (shape N)).own_val (map N.to zs) us)
+  each-field : (zs : List N.D) (us : List Val) → shadow (each N.D R.own_val zs us) → shadow (each (Denots (fields N)) (Struct (shape N)).own_val (map N.to zs) us)
   each-field [] [] p = p
   each-field [] (u ∷ us) p = p
   each-field (z ∷ zs) [] p = p

@@ -205,29 +205,29 @@ module _ (A : List ℕ) (rows : List (List ℕ)) (cards : List Card) (I H M list
       ))
 
   module _ (none : early ≡ accepted) where
-    as_many : length rows ≡ length m.cards
-    as_many =
+    same-many : length rows ≡ length m.cards
+    same-many =
         cases (as_many rows m) (λ e. eqb-true (length rows) (length m.cards) e)
         (λ e. let k = sym none ∙ found ∙ sym (early-other rows m (length answer) list (eqb-false (length rows) (length m.cards) e)) in absurd (omega arith))
 
     pub run-as-many : length rows ≡ length cards
-    run-as-many = as_many ∙ rows-length cards
+    run-as-many = same-many ∙ rows-length cards
 
     module _ (number served written : ℕ) (A' : List ℕ) (rows' : List (List ℕ)) (I' H' M' answer' : List ℕ) (letter : ℕ)
         (said : ran number served written (lent A' rows' I' H' M') answer' ≡ run m list answer) (told : letter ≡ letter_of m number) where
       pub run-unsound : (number ≡ accepted → ⊥)
           → (ran number served written (lent A' (rows_of cards) I' H' M') answer' ≡ run_over rows m list answer) × ((letter ≡ letter_of m number) × Left number rows rows' cards cards)
       run-unsound n =
-          let p = passed m list answer (early-same rows m (length answer) list as_many ∙ sym found ∙ none) in
+          let p = passed m list answer (early-same rows m (length answer) list same-many ∙ sym found ∙ none) in
           let late = said ∙ run-late m list answer p (λ e. n (ap (λ (o : Outcome). o.number) said ∙ e)) in
           let back : rows' ≡ rows_of cards = ap (λ (o : Outcome). o.lent.cards) late in (
-            ap (λ (l : List (List ℕ)). ran number served written (lent A' l I' H' M') answer') (sym back) ∙ said ∙ run-same rows m list answer as_many,
+            ap (λ (l : List (List ℕ)). ran number served written (lent A' l I' H' M') answer') (sym back) ∙ said ∙ run-same rows m list answer same-many,
             (told, record { rows_are = back ∙ rows-unsound number rows cards (ap (λ (o : Outcome). o.number) late); cards-stay = λ _. refl }),
           )
 
       pub run-served : number ≡ accepted → (cards' : List Card) → rows_of cards' ≡ rows'
           → (ran number served written (lent A' (rows_of cards') I' H' M') answer' ≡ run_over rows m list answer) × ((letter ≡ letter_of m number) × Left number rows rows' cards cards')
       run-served n cards' e = (
-        ap (λ (l : List (List ℕ)). ran number served written (lent A' l I' H' M') answer') e ∙ said ∙ run-same rows m list answer as_many,
+        ap (λ (l : List (List ℕ)). ran number served written (lent A' l I' H' M') answer') e ∙ said ∙ run-same rows m list answer same-many,
         (told, record { rows_are = sym e ∙ rows-accepted number rows cards' n; cards-stay = λ r. absurd (r n) }),
       )

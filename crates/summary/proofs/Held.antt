@@ -69,6 +69,7 @@ has-summary ks n =
 
 -- A bit of a key that is there is a bit of some key.
 pub any-member : (n k : ℕ) (ks : List ℕ) → Memᴰ k ks → key_has n k ≡ true → any_has n ks ≡ true
+any-member n k [] x'' h = elim x'' [ ]
 any-member n k (x ∷ ks) (Memᴰ.head e) h = rw (← e, h)
 any-member n k (x ∷ ks) (Memᴰ.tail m) h = rw (any-member n k ks m h, or-true (key_has n x))
 

@@ -4,10 +4,12 @@
 --   Fresh     the program's new store
 --   Along     a list served up to a position, over one store
 --   Pieces    one piece after the other, to the end
+--   Handed    what a writer holds after the pieces handed on
 --   Stretch   a run over the rest of a list gives the next piece
 pub mod Behind
 pub mod Each
 pub mod Fresh
 pub mod Along
 pub mod Pieces
+pub mod Handed
 pub mod Stretch

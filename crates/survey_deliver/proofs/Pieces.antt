@@ -51,7 +51,7 @@ module _ {list : List ℕ} {m : Lent} {from : Progress} {answer : List ℕ} {m' 
   pub next-length : Bytes list → long ≤ length answer
   next-length b = omega (arith, x.measured, done-fits list from.served room b)
 
-  piece_is : Bytes list → take long answer' ≡ made.bytes
+  pub piece_is : Bytes list → take long answer' ≡ made.bytes
   piece_is b =
       ap (λ (k : ℕ). take k answer') x.measured
       ∙ ap (λ (y : List ℕ). take (length made.bytes) y) x.answered

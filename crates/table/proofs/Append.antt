@@ -104,4 +104,4 @@ valid-snoc es e v few above small short bytes =
     }
   where
     values-snoc : (es : List Entry) → Values es → Values (es ++ e ∷ [])
-    values-snoc es = elim es [ [] ↦ λ w. ((short, bytes), tt) | f ∷ (fs → ih) ↦ λ w. (w.0, ih w.1) ]
+    values-snoc es = elim es as (λ k. Values k → Values (k ++ e ∷ [])) [ [] ↦ λ w. ((short, bytes), tt) | f ∷ (fs → ih) ↦ λ w. (w.0, ih w.1) ]

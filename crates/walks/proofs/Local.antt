@@ -4,7 +4,7 @@
 use Prim.Native.Nat.{ℕ}
 use mathlib.Core.List.{List, [], ◌∷◌}
 use seplogic.Ra.Ura.{Ura}
-use seplogic.Ra.TreeShare.{full_share}
+use base.Fraction.{full_share}
 use mir.Syntax.{Ty}
 use mir.Val.{Val}
 use base.Logic.{ent, sep}
@@ -30,13 +30,13 @@ module _ {M : Type 1} {𝓤 : Ura M} (𝓛 : Logic 𝓤) (N : Declared) (L : LL.
   abbrev v : Val
   v = LL.val N L h
 
-  pub lies_in : ent 𝓤 (sep 𝓤 (H.at full_share τ b o v) (sem 𝓛 (R.own h (v ∷ [])))) (sem 𝓛 ((mem R).own_at h b o))
+  pub lies_in : ent 𝓤 (sep 𝓤 (H.at full_share τ b o v) (sem 𝓛 (R.own_val h (v ∷ [])))) (sem 𝓛 ((mem R).own_at h b o))
   unfolding part_of
   lies_in =
-      qed 𝓛 (‵ (fat full_share τ b o v) ∷ ‵ (R.own h (v ∷ [])) ∷ []) ∵ use1 𝓛 (‵ (cell_at full_share R.mir (v ∷ []) b o)) (𝓛.laws.at_raw full_share τ b o v) $ fjoin ! $
-      fpack ! (List Val) (λ us. fsep (cell_at full_share R.mir us b o) (R.own h us)) (v ∷ []) $ done !
+      qed 𝓛 (‵ (fat full_share τ b o v) ∷ ‵ (R.own_val h (v ∷ [])) ∷ []) ∵ use1 𝓛 (‵ (cell_at full_share R.mir (v ∷ []) b o)) (𝓛.laws.at_raw full_share τ b o v) $ fjoin ! $
+      fpack ! (List Val) (λ us. fsep (cell_at full_share R.mir us b o) (R.own_val h us)) (v ∷ []) $ done !
 
-  pub lies_out : ent 𝓤 (sem 𝓛 ((mem R).own_at h b o)) (sep 𝓤 (H.at full_share τ b o v) (sem 𝓛 (R.own h (v ∷ []))))
+  pub lies_out : ent 𝓤 (sem 𝓛 ((mem R).own_at h b o)) (sep 𝓤 (H.at full_share τ b o v) (sem 𝓛 (R.own_val h (v ∷ []))))
   unfolding part_of
   lies_out =
       qed 𝓛 (‵ ((mem R).own_at h b o) ∷ []) ∵ fpick ! (λ vs. fsplit ! $ spelt ! R (Is R) (shows 𝓛 R) (LL.vals N L) (LL.tells N L) full_share h vs b o $

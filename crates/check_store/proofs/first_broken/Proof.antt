@@ -15,124 +15,106 @@ abbrev lent : tie.Start → Lent
 lent c = record { area = c.args.area.now; cards = c.args.cards.now; lists = c.args.lists.now; head = c.args.head.now; memory = c.args.memory.now }
 
 -- Where the function began, behind each rule that was found kept; and which rule that is, by the definition.
-abbrev start-A : tie.Else1 → tie.Start
+abbrev start-A : tie.Else-not-kept → tie.Start
 start-A c = c.before.before.before.before.before.before
 
-abbrev behind-A : tie.Else2 → tie.Else1
+abbrev behind-A : tie.Else-not-kept-2 → tie.Else-not-kept
 behind-A c = c.before.before.before.before.before
 
-abbrev start-B : tie.Else2 → tie.Start
+abbrev start-B : tie.Else-not-kept-2 → tie.Start
 start-B c = start-A (behind-A c)
 
-abbrev behind-B : tie.Else3 → tie.Else2
+abbrev behind-B : tie.Else-not-kept-3 → tie.Else-not-kept-2
 behind-B c = c.before.before.before.before.before
 
-abbrev start-C : tie.Else3 → tie.Start
+abbrev start-C : tie.Else-not-kept-3 → tie.Start
 start-C c = start-B (behind-B c)
 
-a-kept : (c : tie.Else1) → rule_a (store_of (lent (start-A c))) ≡ true
-a-kept c = rule-A (lent (start-A c)) (start-A c).requires.0 ∙ sym c.before.kept.ensures ∙ not-false _ c.if1.false
+a-kept : (c : tie.Else-not-kept) → rule_a (store_of (lent (start-A c))) ≡ true
+a-kept c = rule-A (lent (start-A c)) (start-A c).requires.0 ∙ sym c.kept.ensures ∙ c.if-not-kept.false
 
-b-kept : (c : tie.Else2) → kept_b (lent (start-B c)) ≡ true
-b-kept c = rule-B (lent (start-B c)) (start-B c).requires.0 ∙ sym c.before.before.before.kept2.ensures ∙ not-false _ c.if2.false
+b-kept : (c : tie.Else-not-kept-2) → kept_b (lent (start-B c)) ≡ true
+b-kept c = rule-B (lent (start-B c)) (start-B c).requires.0 ∙ sym c.kept-2.ensures ∙ c.if-not-kept-2.false
 
-c-kept : (c : tie.Else3) → kept_c (lent (start-C c)) ≡ true
-c-kept c = rule-C (lent (start-C c)) (start-C c).requires.0 ∙ sym c.before.before.before.kept3.ensures.0 ∙ not-false _ c.if3.false
+c-kept : (c : tie.Else-not-kept-3) → kept_c (lent (start-C c)) ≡ true
+c-kept c = rule-C (lent (start-C c)) (start-C c).requires.0 ∙ sym c.kept-3.ensures.0 ∙ c.if-not-kept-3.false
 
 kept-requires : tie.Need-kept-requires
 kept-requires c κs = search rules
 
-returns : tie.Need-returns
+returns : tie.Need-returns-then-not-kept
 returns c =
-    let s = c.before.before.before.before.before.before in
-    letter-A (lent s) (rule-A (lent s) s.requires.0 ∙ sym c.before.kept.ensures ∙ not-true _ c.if1.true)
+    let s = c in
+    letter-A (lent s.before.before.before.before.before.before) (rule-A (lent s.before.before.before.before.before.before) s.requires.0 ∙ sym c.kept.ensures ∙ c.if-not-kept.true)
 
 kept-requires-2 : tie.Need-kept-requires-2
-kept-requires-2 c κs = let s = start-A c.before in (s.pre.1.1, long-lists (lent s) s.pre.0)
+kept-requires-2 c κs = let s = start-A c.before in (s.requires.1.1, long-lists (lent s) s.requires.0)
 
-same_length : tie.Need-same-length
+same_length : tie.Need-shape_of-marks-then-not-kept-2
 same_length c = search rules
 
-returns-2 : tie.Need-returns-2
+returns-2 : tie.Need-returns-then-not-kept-2
 returns-2 c =
-    let a = c.before.before.before.before.before in
-    let s = start-A a in
-    letter-B (lent s) (a-kept a) (rule-B (lent s) s.pre.0 ∙ sym c.before.before.before.kept2.ensures ∙ not-true _ c.if2.true)
+    let a = c in
+    let s = start-A a.before.before.before.before.before in
+    letter-B (lent s) (a-kept a.before.before.before.before.before) (rule-B (lent s) s.requires.0 ∙ sym c.kept-2.ensures ∙ c.if-not-kept-2.true)
 
 kept-requires-3 : tie.Need-kept-requires-3
-kept-requires-3 c κs = let s = start-B c.before in (sized (lent s) s.pre.0, s.pre.1.0)
+kept-requires-3 c κs = let s = start-B c.before in (sized (lent s) s.requires.0, s.requires.1.0)
 
-same-length-2 : tie.Need-same-length-2
+same-length-2 : tie.Need-shape_of-ends-then-not-kept-3
 same-length-2 c = search rules
 
-same-length-3 : tie.Need-same-length-3
+same-length-3 : tie.Need-shape_of-marks-then-not-kept-3
 same-length-3 c = search rules
 
-returns-3 : tie.Need-returns-3
+returns-3 : tie.Need-returns-then-not-kept-3
 returns-3 c =
-    let b = c.before.before.before.before.before in
-    let s = start-B b in
-    letter-C (lent s) (a-kept (behind-A b)) (b-kept b)
-    (rule-C (lent s) s.pre.0 ∙ sym c.before.before.before.kept3.ensures.0 ∙ not-true _ c.if3.true)
+    let b = c in
+    let s = start-B b.before.before.before.before.before in
+    letter-C (lent s) (a-kept (behind-A b.before.before.before.before.before)) (b-kept b.before.before.before.before.before)
+    (rule-C (lent s) s.requires.0 ∙ sym c.kept-3.ensures.0 ∙ c.if-not-kept-3.true)
 
-is-memory-requires : tie.Need-is-memory-requires
-is-memory-requires c κs = c.is-memory-arg.given.0
+is-memory-requires : tie.Need-is_memory-requires
+is-memory-requires c κs = c.is_memory-arg-1.given
 
-same-length-4 : tie.Need-same-length-4
+same-length-4 : tie.Need-shape_of-ends-then-not-is_memory
 same-length-4 c = search rules
 
-same-length-5 : tie.Need-same-length-5
+same-length-5 : tie.Need-shape_of-marks-then-not-is_memory
 same-length-5 c = search rules
 
-returns-4 : tie.Need-returns-4
+returns-4 : tie.Need-returns-then-not-is_memory
 returns-4 c =
-    let k = c.before.before.before in
-    letter-D (lent (start-C k)) (a-kept (behind-A (behind-B k))) (b-kept (behind-B k)) (c-kept k)
-    (sym c.before.is-memory.ensures ∙ not-true _ c.if4.true)
+    let k = c in
+    letter-D (lent (start-C k.before.before.before)) (a-kept (behind-A (behind-B k.before.before.before))) (b-kept (behind-B k.before.before.before)) (c-kept k.before.before.before)
+    (sym c.is_memory.ensures ∙ c.if-not-is_memory.true)
 
-rest-letter-requires : tie.Need-rest-letter-requires
+rest-letter-requires : tie.Need-rest_letter-requires
 rest-letter-requires c κs =
-    let k = c.before.before.before.before.before in
-    let b = behind-B k in
-    let s = start-C k in
-    let noted = k.before.before.before.kept3.ensures.1 (not-false _ k.if3.false) in (
-      (found (lent s) s.pre.0 (b-kept b) (c-kept k) _ noted, kept-C (lent s) s.pre.0 (b-kept b) (c-kept k)),
-      b.before.before.marks.given ∙ s.pre.1.1,
+    let k = c in
+    let b = behind-B k.before.before.before.before in
+    let s = start-C k.before.before.before.before in
+    let noted = k.kept-3.ensures.1 (k.if-not-kept-3.false) in (
+      (found (lent s) s.requires.0 (b-kept b) (c-kept k.before.before.before.before) _ noted, kept-C (lent s) s.requires.0 (b-kept b) (c-kept k.before.before.before.before)),
+      b.marks-1.given ∙ s.requires.1.1,
     )
 
-same-length-6 : tie.Need-same-length-6
+same-length-6 : tie.Need-shape_of-ends
 same-length-6 c = search rules
 
-same-length-7 : tie.Need-same-length-7
+same-length-7 : tie.Need-shape_of-marks
 same-length-7 c = search rules
 
-returns-5 : tie.Need-returns-5
+returns-5 : tie.Need-returns
 returns-5 c =
-    let r = c.before.before in
-    let d = r.before.before.before in
-    let k = d.before.before.before in
-    let s = start-C k in
-    let memory = sym d.before.is-memory.ensures ∙ not-false _ d.if4.false in
-    r.rest-letter.ensures ∙ rest-letters (lent s) s.pre.0 (a-kept (behind-A (behind-B k))) (b-kept (behind-B k)) (c-kept k) memory
+    let r = c in
+    let d = r in
+    let k = d in
+    let s = start-C k.before.before.before.before.before.before.before in
+    let memory = sym d.is_memory.ensures ∙ d.if-not-is_memory.false in
+    r.rest_letter.ensures ∙ rest-letters (lent s) s.requires.0 (a-kept (behind-A (behind-B k.before.before.before.before.before.before.before))) (b-kept (behind-B k.before.before.before.before.before.before.before)) (c-kept k.before.before.before.before.before.before.before) memory
 
-pub first-broken-spec : {M : Type 1} → statement M
-first-broken-spec =
-    tie.close
-    (tie.spec
-    kept-requires
-    returns
-    kept-requires-2
-    same_length
-    returns-2
-    kept-requires-3
-    same-length-2
-    same-length-3
-    returns-3
-    is-memory-requires
-    same-length-4
-    same-length-5
-    returns-4
-    rest-letter-requires
-    same-length-6
-    same-length-7
-    returns-5)
+pub first_broken_spec : {M : Type 1} → statement M
+first_broken_spec =
+    tie.close (tie.spec kept-requires returns kept-requires-2 same_length returns-2 kept-requires-3 same-length-2 same-length-3 returns-3 is-memory-requires same-length-4 same-length-5 returns-4 rest-letter-requires same-length-6 same-length-7 returns-5)

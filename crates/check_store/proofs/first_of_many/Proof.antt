@@ -12,31 +12,25 @@ use Rattle.check_store.proofs.first_of_many.Tie as tie
 abbrev lent : tie.Start → Lent
 lent c = record { area = c.args.area.now; cards = c.args.cards.now; lists = c.args.lists.now; head = c.args.head.now; memory = c.args.memory.now }
 
-slice-aggregate-first-broken : tie.Need-slice-aggregate-first-broken
+slice-aggregate-first-broken : tie.Need-slice_bounds-first_broken-end
 slice-aggregate-first-broken c = search rules
 
-array-borrow-prefix-marks : tie.Need-array-borrow-prefix-marks
-array-borrow-prefix-marks c = let s = c.before.before.before in (sized (lent s) s.requires).most
+array-borrow-prefix-marks : tie.Need-slice_bounds-marks-end
+array-borrow-prefix-marks c = let s = c in (sized (lent s.before.before.before) s.requires).most
 
-slice-aggregate-first-broken-2 : tie.Need-slice-aggregate-first-broken-2
+slice-aggregate-first-broken-2 : tie.Need-slice_bounds-first_broken-end-2
 slice-aggregate-first-broken-2 c =
-    let s = c.before.before.before.before in
-    sym (length-take-le (length s.args.cards.now) _ (sized (lent s) s.requires).most)
+    let s = c in
+    sym (length-take-le (length s.args.cards.now) _ (sized (lent s.before.before.before.before) s.requires).most)
 
-first-broken-requires : tie.Need-first-broken-requires
+first-broken-requires : tie.Need-first_broken-requires
 first-broken-requires c κs =
-    let s = c.before.before.before.before in
-    (s.requires, ((sized (lent s) s.requires).most, length-take-le (length s.args.cards.now) _ (sized (lent s) s.requires).most))
+    let s = c in
+    (s.requires, ((sized (lent s.before.before.before.before) s.requires).most, length-take-le (length s.args.cards.now) _ (sized (lent s.before.before.before.before) s.requires).most))
 
 returns : tie.Need-returns
 returns c = search rules
 
-pub first-of-many-spec : {M : Type 1} → statement M
-first-of-many-spec =
-    tie.close
-    (tie.spec
-    slice-aggregate-first-broken
-    array-borrow-prefix-marks
-    slice-aggregate-first-broken-2
-    first-broken-requires
-    returns)
+pub first_of_many_spec : {M : Type 1} → statement M
+first_of_many_spec =
+    tie.close (tie.spec slice-aggregate-first-broken array-borrow-prefix-marks slice-aggregate-first-broken-2 first-broken-requires returns)

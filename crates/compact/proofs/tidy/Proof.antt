@@ -18,8 +18,8 @@ use Rattle.compact.proofs.tidy.Statement.{statement}
 use Rattle.compact.proofs.tidy.Tie as tie
 
 -- The area is bytes.
-bytes : (c : tie.After-slice-known) → Bytes c.before.args.area.now
-bytes c = λ i. omega (arith, c.slice-known.given i)
+bytes : (c : tie.After-slice_known-1) → Bytes c.args.area.now
+bytes c = λ i. omega (arith, c.slice_known-1.given i)
 
 -- The plan names the step, with every memory table.
 step : (c : tie.Start)
@@ -32,89 +32,74 @@ step c memory b =
     plan-named s ∙ ap (plan_step s) (sym (c.requires.planned memory b))
 
 -- And it tells of the table.
-tells : (c : tie.After-slice-known) → (r : Plan) → c.before.args.plan ≡ r
-    → let b = c.before in
+tells : (c : tie.After-slice_known-1) → (r : Plan) → c.args.plan ≡ r
+    → let b = c in
     Planned (store_of (lent b.args.area.now b.args.cards.now b.args.lists.now (head_words b.args.head) b.requires.work.memory)) r
 tells c r e =
-    let a = c.before.args in
-    let t = c.before.requires.work in
-    rw (sym (c.before.requires.planned t.memory t.backed) ∙ e) at
+    let a = c.args in
+    let t = c.requires.work in
+    rw (sym (c.requires.planned t.memory t.backed) ∙ e) at
     (plan-tells (store_of (lent a.area.now a.cards.now a.lists.now (head_words a.head) t.memory))
     (sound a.area.now a.cards.now a.lists.now (head_words a.head) t.memory t.wide refl t.backed (bytes c)))
 
-enum_told : tie.Need-enum-told
+enum_told : tie.Need-enum_told-1
 enum_told c = search rules
 
-enum-known-plan : tie.Need-enum-known-plan
+enum-known-plan : tie.Need-enum_known-plan
 enum-known-plan c = search rules
 
-take-down-requires : tie.Need-take-down-requires
+take-down-requires : tie.Need-take_down-requires
 take-down-requires c κs =
-    let p = c.before.before.before.before in
-    let k = p.before.before.before in
-    record { work = k.before.requires.work; chosen = tells k _ p.plan.given.1 }
+    let p = c in
+    let k = p in
+    record { work = k.requires.work; chosen = tells k.before.before.before.before _ p.in-Down.is }
 
-enum-known-plan-2 : tie.Need-enum-known-plan-2
+enum-known-plan-2 : tie.Need-enum_known-plan-in-Merge-1
 enum-known-plan-2 c = search rules
 
-merge-or-refuse-requires : tie.Need-merge-or-refuse-requires
+merge-or-refuse-requires : tie.Need-merge_or_refuse-requires
 merge-or-refuse-requires c κs =
-    let p = c.before.before.before.before in
-    let k = p.before.before.before in
-    record { work = k.before.requires.work; merging = tells k _ p.plan2.given.1 }
+    let p = c in
+    let k = p in
+    record { work = k.requires.work; merging = tells k.before.before.before.before.before _ p.in-Merge.is }
 
-returns : tie.Need-returns
+returns : tie.Need-returns-in-Idle
 returns c memory b =
-    let k = c.before.before.before in
-    let a = k.before.args in
-    rw (step k.before memory b ∙ ap (plan_step _) c.enum_told.given.1)
-    (record { result = refl; body = refl; left = sym (same a.area.now a.cards.now a.lists.now (head_words a.head) memory k.before.requires.work.wide refl b (bytes k)) })
+    let k = c in
+    let a = k.args in
+    rw (step k.before.before.before memory b ∙ ap (plan_step _) c.in-Idle.is)
+    (record { result = refl; body = refl; left = sym (same a.area.now a.cards.now a.lists.now (head_words a.head) memory k.requires.work.wide refl b (bytes k.before.before)) })
 
-same_length : tie.Need-same-length
+same_length : tie.Need-shape_of-area-in-Down
 same_length c = search rules
 
-same-length-2 : tie.Need-same-length-2
+same-length-2 : tie.Need-shape_of-cards-in-Down
 same-length-2 c = search rules
 
-same-length-3 : tie.Need-same-length-3
+same-length-3 : tie.Need-shape_of-lists-in-Down
 same-length-3 c = search rules
 
-returns-2 : tie.Need-returns-2
+returns-2 : tie.Need-returns-in-Down
 returns-2 c memory b =
-    let d = c.before.before.before in
-    let p = d.before.before.before.before.before in
-    rw (step p.before.before.before.before memory b ∙ ap (plan_step _) p.plan.given.1) (d.take-down.ensures memory b)
+    let d = c in
+    let p = d in
+    rw (step p.before.before.before.before.before.before.before.before.before memory b ∙ ap (plan_step _) p.in-Down.is) (d.take_down.ensures memory b)
 
-same-length-4 : tie.Need-same-length-4
+same-length-4 : tie.Need-shape_of-area-in-Merge
 same-length-4 c = search rules
 
-same-length-5 : tie.Need-same-length-5
+same-length-5 : tie.Need-shape_of-cards-in-Merge
 same-length-5 c = search rules
 
-same-length-6 : tie.Need-same-length-6
+same-length-6 : tie.Need-shape_of-lists-in-Merge
 same-length-6 c = search rules
 
-returns-3 : tie.Need-returns-3
+returns-3 : tie.Need-returns-in-Merge
 returns-3 c memory b =
-    let d = c.before.before.before.before.before in
-    let p = d.before.before.before.before.before in
-    rw (step p.before.before.before.before memory b ∙ ap (plan_step _) p.plan2.given.1) (d.merge-or-refuse.ensures memory b)
+    let d = c in
+    let p = d in
+    rw (step p.before.before.before.before.before.before.before.before.before.before.before.before memory b ∙ ap (plan_step _) p.in-Merge.is) (d.merge_or_refuse.ensures memory b)
 
-pub tidy-spec : {M : Type 1} → statement M
-tidy-spec =
-    tie.close
-    (tie.spec
-    enum_told
-    enum-known-plan
-    take-down-requires
-    enum-known-plan-2
-    merge-or-refuse-requires
-    returns
-    same_length
-    same-length-2
-    same-length-3
-    returns-2
-    same-length-4
-    same-length-5
-    same-length-6
-    returns-3)
+pub tidy_spec : {M : Type 1} → statement M
+tidy_spec =
+    tie.close (tie.spec enum_told enum-known-plan take-down-requires enum-known-plan-2 merge-or-refuse-requires returns same_length same-length-2 same-length-3 returns-2 same-length-4 same-length-5 same-length-6 returns-3)

@@ -17,118 +17,104 @@ use Rattle.compact_pick.proofs.Plans.{items, short, items-long, overfull-by, ful
 use Rattle.compact_pick.proofs.make_plan.Statement.{statement}
 use Rattle.compact_pick.proofs.make_plan.Tie as tie
 
-find-due-requires : tie.Need-find-due-requires
-find-due-requires c κs = c.before.before.requires
+find-due-requires : tie.Need-find_due-requires
+find-due-requires c κs = c.requires
 
-enum-known-n : tie.Need-enum-known-n
+enum-known-n : tie.Need-enum_known-n
 enum-known-n c = search rules
 
-returns : tie.Need-returns
+returns : tie.Need-returns-in-At
 returns c s w k =
-    let d = c.before.before.before in
-    sym (plan-due s c.before.n.given.0.0 c.before.n.given.0.1.0 (sym (d.find-due.ensures s w k) ∙ ap the_due c.before.n.given.1))
+    let d = c in
+    sym (plan-due s c.in-At.n c.in-At.p (sym (d.find_due.ensures s w k) ∙ ap the_due c.in-At.is))
 
-enum_told : tie.Need-enum-told
+enum_told : tie.Need-enum_told-1
 enum_told c = search rules
 
-find-overfull-requires : tie.Need-find-overfull-requires
+find-overfull-requires : tie.Need-find_overfull-requires
 find-overfull-requires c κs =
-    let b = c.before.before.before.before.before in
+    let b = c in
     short b.args.area.now b.args.cards.now b.args.lists.now (head_words b.args.head) b.requires
 
 -- No table is due, so the plan is that of the level.
-levelled : (c : tie.After-find-overfull)
-    → let b = c.before.before.before.before.before.before in
-    (s : Store) → ToldBy s (lent b.args.area.now b.args.cards.now b.args.lists.now (head_words b.args.head) []) → CalmBut b.args.suspect s → plan_of s ≡ level_plan s (the_index c.find-overfull.result)
+levelled : (c : tie.After-find_overfull)
+    → let b = c in
+    (s : Store) → ToldBy s (lent b.args.area.now b.args.cards.now b.args.lists.now (head_words b.args.head) []) → CalmBut b.args.suspect s → plan_of s ≡ level_plan s (the_index c.find_overfull.result)
 levelled c s w k =
-    let b = c.before.before.before.before.before.before in
-    let d = c.before.before.before in
-    plan-level s (sym (d.find-due.ensures s w k) ∙ ap the_due c.before.enum_told.given.1)
-    ∙ ap (level_plan s) (sym (c.find-overfull.ensures ∙ overfull-by b.args.area.now b.args.cards.now b.args.lists.now (head_words b.args.head) b.requires s w.booked))
+    let b = c in
+    let d = c in
+    plan-level s (sym (d.find_due.ensures s w k) ∙ ap the_due c.in_default.is)
+    ∙ ap (level_plan s) (sym (c.find_overfull.ensures ∙ overfull-by b.args.area.now b.args.cards.now b.args.lists.now (head_words b.args.head) b.requires s w.booked))
 
-enum-known-n-2 : tie.Need-enum-known-n-2
+enum-known-n-2 : tie.Need-enum_known-n-in-At-find_overfull
 enum-known-n-2 c = search rules
 
-enum-told-2 : tie.Need-enum-told-2
+enum-told-2 : tie.Need-enum_told-in_default-find_overfull
 enum-told-2 c = search rules
 
-returns-2 : tie.Need-returns-2
+returns-2 : tie.Need-returns-in_default-find_overfull
 returns-2 c s w k =
-    sym (levelled c.before.before s w k ∙ ap (λ o. level_plan s (the_index o)) c.enum-told2.given.1 ∙ plan-idle s)
+    sym (levelled c.before s w k ∙ ap (λ o. level_plan s (the_index o)) c.in_default-find_overfull.is ∙ plan-idle s)
 
 -- The level has a capacity, and tables.
-found : (c : tie.After-known-told2)
-    → let b = c.before.before.before.before.before.before.before.before.before in
-    (c.before.n2.given.0.0 < last_level) × (0 < length_in (head_words b.args.head) c.before.n2.given.0.0)
+found : (c : tie.In-At-find_overfull)
+    → let b = c in
+    (c.in-At-find_overfull.n < last_level) × (0 < length_in (head_words b.args.head) c.in-At-find_overfull.n)
 found c =
-    let o = c.before.before.before in
-    let b = o.before.before.before.before.before.before in
-    full-some (length_in (head_words b.args.head)) c.before.n2.given.0.0 (sym o.find-overfull.ensures ∙ ap the_index c.before.n2.given.1)
+    let o = c in
+    let b = o in
+    full-some (length_in (head_words b.args.head)) c.in-At-find_overfull.n (sym o.find_overfull.ensures ∙ ap the_index c.in-At-find_overfull.is)
 
-length-of-requires : tie.Need-length-of-requires
+length-of-requires : tie.Need-length_of-requires
 length-of-requires c κs = omega (arith, (found c).0)
 
-items-requires : tie.Need-items-requires
+items-requires : tie.Need-items-items-requires
 items-requires c κs =
-    let v = c.before.before.before.before.before.before.before.before.before.before.requires in
-    let n : ℕ = c.before.before.n2.given.0.0 in
+    let v = c.requires in
+    let n : ℕ = c.in-At-find_overfull.n in
     let four : n < level_count = omega (arith, (found c.before).0) in
-    (v.sized, (rw c.length-of.ensures (v.lengths n four), four))
+    (v.sized, (rw c.length_of.ensures (v.lengths n four), four))
 
-mark-of-requires : tie.Need-mark-of-requires
+mark-of-requires : tie.Need-mark_of-requires
 mark-of-requires c κs = search rules
 
 -- The items that are lent on are the level's.
-lent-items : (c : tie.After-items)
-    → let a = c.before.before.before.before.before.before.before.before.before.before.before.args in
-    c.items.result.now ≡ items_in (length a.cards.now) a.lists.now (head_words a.head) c.before.before.before.n2.given.0.0
-lent-items c = c.items.ensures ∙ rw c.before.length-of.ensures
+lent-items : (c : tie.After-items-items)
+    → let a = c.args in
+    c.items-items.result.now ≡ items_in (length a.cards.now) a.lists.now (head_words a.head) c.in-At-find_overfull.n
+lent-items c = c.items-items.ensures ∙ rw c.length_of.ensures
 
 choose-requires : tie.Need-choose-requires
 choose-requires c κs =
-    let i = c.before in
-    let l = i.before in
-    let b = l.before.before.before.before.before.before.before.before.before.before in
+    let i = c in
+    let l = i in
+    let b = l in
     let a = b.args in
-    let n : ℕ = l.before.before.n2.given.0.0 in
-    let f = found l.before in
+    let n : ℕ = l.in-At-find_overfull.n in
+    let f = found l.before.before.before in
     let four : n < level_count = omega (arith, f.0) in
-    rw (lent-items i)
+    rw (lent-items i.before)
     (record {
       carded = items a.area.now a.cards.now a.lists.now (head_words a.head) b.requires n four;
       some_item = rw (items-long a.area.now a.cards.now a.lists.now (head_words a.head) b.requires n four) f.1;
     })
 
-returns-3 : tie.Need-returns-3
+returns-3 : tie.Need-returns
 returns-3 c s w calm =
-    let i = c.before.before in
-    let k = i.before.before in
-    let o = k.before.before.before in
-    let n : ℕ = k.before.n2.given.0.0 in
-    let four : n < level_count = omega (arith, (found k).0) in
+    let i = c in
+    let k = i in
+    let o = k in
+    let n : ℕ = k.in-At-find_overfull.n in
+    let four : n < level_count = omega (arith, (found k.before.before.before.before).0) in
     c.choose.ensures s
     (record {
       reads = w.reads;
       linked = w.booked.linked;
-      level-items = w.booked.levels n four ∙ sym (lent-items i);
-      level-mark = w.booked.marks n ∙ sym c.before.mark_of.ensures;
+      level-items = w.booked.levels n four ∙ sym (lent-items i.before.before);
+      level-mark = w.booked.marks n ∙ sym c.mark_of.ensures;
     })
-    ∙ sym (levelled o s w calm ∙ ap (λ f. level_plan s (the_index f)) k.before.n2.given.1)
+    ∙ sym (levelled o.before.before.before.before.before s w calm ∙ ap (λ f. level_plan s (the_index f)) k.in-At-find_overfull.is)
 
-pub make-plan-spec : {M : Type 1} → statement M
-make-plan-spec =
-    tie.close
-    (tie.spec
-    find-due-requires
-    enum-known-n
-    returns
-    enum_told
-    find-overfull-requires
-    enum-known-n-2
-    enum-told-2
-    returns-2
-    length-of-requires
-    items-requires
-    mark-of-requires
-    choose-requires
-    returns-3)
+pub make_plan_spec : {M : Type 1} → statement M
+make_plan_spec =
+    tie.close (tie.spec find-due-requires enum-known-n returns enum_told find-overfull-requires enum-known-n-2 enum-told-2 returns-2 length-of-requires items-requires mark-of-requires choose-requires returns-3)

@@ -9,56 +9,45 @@ use Rattle.history_grown.proofs.run_and_save.Tie as tie
 make-requires : tie.Need-make-requires
 make-requires c κs = search rules
 
-run-all-requires : tie.Need-run-all-requires
+run-all-requires : tie.Need-run_all-requires
 run-all-requires c κs = search rules
 
-save-requires : tie.Need-save-requires
+save-requires : tie.Need-save-saved-requires
 save-requires c κs = search rules
 
-same_length : tie.Need-same-length
+same_length : tie.Need-shape_of-area
 same_length c = search rules
 
-same-length-2 : tie.Need-same-length-2
+same-length-2 : tie.Need-shape_of-cards
 same-length-2 c = search rules
 
-same-length-3 : tie.Need-same-length-3
+same-length-3 : tie.Need-shape_of-lists
 same-length-3 c = search rules
 
-same-length-4 : tie.Need-same-length-4
+same-length-4 : tie.Need-shape_of-answers
 same-length-4 c = search rules
 
-same-length-5 : tie.Need-same-length-5
+same-length-5 : tie.Need-shape_of-served
 same-length-5 c = search rules
 
-same-length-6 : tie.Need-same-length-6
+same-length-6 : tie.Need-shape_of-buffer
 same-length-6 c = search rules
 
 returns : tie.Need-returns
 returns c =
-    let s = c.before.before in
-    let r = s.before.before.before.before.before.before.before.before.before.before.before.before.before.before.before.before in
-    let d = r.before.before.before.before.before.before.before.before.before.before.before.before.before in
-    let a = d.before.before.before.before.before.before.before.before.before.before.before.before.before.before.args in
+    let s = c in
+    let r = s in
+    let d = r in
+    let a = d.args in
     let made = d.make.new in
-    let last = r.run-all.new in
+    let last = r.run_all.new in
     ran-saved (lent a.area.now a.cards.now a.lists.now a.head.now a.memory.now) a.threshold
     (pieces a.input.now a.ends.now a.answers.now a.stops.now a.served.now) a.n a.buffer.now d.make.result
-    (lent made.0 made.1.0 made.1.1.0 made.1.1.1.0 made.1.1.1.1.0) d.make.ensures
-    (lent last.0 last.1.0 last.1.1.0 last.1.1.1.0 last.1.1.1.1.0)
-    (pieces a.input.now a.ends.now last.1.1.1.1.1.1.1.0 a.stops.now last.1.1.1.1.1.1.1.1.1.0) r.run-all.ensures
-    s.save.result.number s.save.result.written s.save.new.1.1.1.1.1.0 s.save.ensures.0
+    (lent made.area made.cards made.lists made.head made.memory) d.make.ensures
+    (lent last.area last.cards last.lists last.head last.memory)
+    (pieces a.input.now a.ends.now last.answers a.stops.now last.served) r.run_all.ensures
+    s.save-saved.result.number s.save-saved.result.written s.save-saved.new.buffer s.save-saved.ensures.0
 
-pub run-and-save-spec : {M : Type 1} → statement M
-run-and-save-spec =
-    tie.close
-    (tie.spec
-    make-requires
-    run-all-requires
-    save-requires
-    same_length
-    same-length-2
-    same-length-3
-    same-length-4
-    same-length-5
-    same-length-6
-    returns)
+pub run_and_save_spec : {M : Type 1} → statement M
+run_and_save_spec =
+    tie.close (tie.spec make-requires run-all-requires save-requires same_length same-length-2 same-length-3 same-length-4 same-length-5 same-length-6 returns)

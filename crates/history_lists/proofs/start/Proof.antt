@@ -4,20 +4,21 @@ use Rattle.history_lists.proofs.Starts.{start-behind}
 use Rattle.history_lists.proofs.start.Statement.{statement}
 use Rattle.history_lists.proofs.start.Tie as tie
 
-returns : tie.Need-returns
+returns : tie.Need-returns-then-k-eq0
 returns c = search rules
 
-sub-result : tie.Need-overflow-sub-result
+sub-result : tie.Need-overflow_sub-result
 sub-result c = search rules
 
-mul-result : tie.Need-overflow-mul-result
+mul-result : tie.Need-offset_bounds-ends-k
 mul-result c = search rules
 
-shared-slice-read-result : tie.Need-shared-slice-read-result
+shared-slice-read-result : tie.Need-bounds-ends-k
 shared-slice-read-result c = search rules
 
-returns-2 : tie.Need-returns-2
-returns-2 c = start-behind c.before.before.args.ends.now c.before.before.args.k c.before.if1.false
+returns-2 : tie.Need-returns
+returns-2 c = start-behind c.args.ends.now c.args.k c.if-k-eq0.false
 
 pub start_spec : {M : Type 1} → statement M
-start_spec = tie.close (tie.spec returns sub-result mul-result shared-slice-read-result returns-2)
+start_spec =
+    tie.close (tie.spec returns sub-result mul-result shared-slice-read-result returns-2)

@@ -25,6 +25,7 @@ module _ {ℓ} {A : Type ℓ} where
 
   -- What all pass, each member passes.
   pub all-at : (test : A → Bool) (xs : List A) → all test xs ≡ true → {x : A} → Memᴰ x xs → test x ≡ true
+  all-at test [] h x4 = elim x4 [ ]
   all-at test (y ∷ xs) h (Memᴰ.head e) = rw e (and_parts (test y) (all test xs) h).0
   all-at test (y ∷ xs) h (Memᴰ.tail m) = all-at test xs (and_parts (test y) (all test xs) h).1 m
 
@@ -67,6 +68,7 @@ module _ {ℓ} {A : Type ℓ} where
   mem-get_or (x ∷ xs) (suc i) d h = Memᴰ.tail (mem-get_or xs i d (omega arith))
 
   pub get_or-mem : (xs : List A) (d : A) {x : A} → Memᴰ x xs → (i : ℕ) × (i < length xs) × (get_or xs i d ≡ x)
+  get_or-mem [] d x3 = elim x3 [ ]
   get_or-mem (y ∷ xs) d (Memᴰ.head e) = (zero, omega arith, sym e)
   get_or-mem (y ∷ xs) d (Memᴰ.tail m) = let r = get_or-mem xs d m in (suc r.0, omega (arith, r.1), r.2)
 
@@ -134,6 +136,7 @@ below_of n test h = all_from-of n 0 test (λ i hi. rw (zero-add i) (h i hi))
 
 module _ {ℓ} {A : Type ℓ} where
   pub how_many-mem : (test : A → Bool) (xs : List A) {x : A} → Memᴰ x xs → test x ≡ true → 1 ≤ how_many test xs
+  how_many-mem test [] x4 h = elim x4 [ ]
   how_many-mem test (y ∷ xs) (Memᴰ.head e) h = rw (rw e at h) (omega arith)
   how_many-mem test (y ∷ xs) (Memᴰ.tail m) h =
       let r = how_many-mem test xs m h in

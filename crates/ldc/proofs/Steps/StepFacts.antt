@@ -12,7 +12,7 @@ use borrow.Author.Tests.{leb-true, leb-false, ltb-true}
 use lib.Dec.{leb, ltb}
 use lib.ListN.{length, get_or, take, drop, take-append-drop, length-append, length-take, length-drop}
 use Rattle.ldc.specs.Lists.{first, keep, is_empty}
-use Rattle.ldc.specs.Store.{Store, level, links, table, mark, within}
+use Rattle.ldc.specs.Store.{Store, level, links, table, mark, span_end, within}
 use Rattle.ldc.specs.Place.{free_places}
 use Rattle.ldc.specs.Tidy.{Slice, idle, refused, moved, linked, merged, merged_tables, merge_step, Spot, due_with, due, due_in, due_table, capacity, fuller, fullest, overfull, passed, round, responsible, slices_of, down_step, tidy_step}
 use Rattle.ldc.proofs.Basics.Cases.{cases, clash, maybe, both_left, both_right, neither_left}
@@ -59,7 +59,7 @@ responsible-member s p from (q ∷ []) x m =
     ⊎_elim (λ e. (ap (λ y. y.place) e, Memᴰ.head (ap (λ y. y.on) e))) (λ t. absurd (elim t [ ])) (Memᴰ.cases_cons m)
 responsible-member s p from (q ∷ r ∷ qs) x m =
     ⊎_elim (λ e. (ap (λ y. y.place) e, Memᴰ.head (ap (λ y. y.on) e)))
-    (λ t. let k = responsible-member s p _ (r ∷ qs) x t in (k.0, Memᴰ.tail k.1)) (Memᴰ.cases_cons m)
+    (λ t. let k = responsible-member s p (suc (span_end s q)) (r ∷ qs) x t in (k.0, Memᴰ.tail k.1)) (Memᴰ.cases_cons m)
 
 pub slice-member : (s : Store) (n p : ℕ) (x : Slice) → Memᴰ x (slices_of s n p) → (x.place ≡ p) × Memᴰ x.on (level s (suc n))
 unfolding slices_of

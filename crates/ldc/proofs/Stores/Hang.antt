@@ -1,7 +1,7 @@
 -- What hanging links leaves: each table has its old links and behind them those that were hung on it; all else is as it was.
 -- By induction on the links that are hung.
 use Prim.Native.Nat.{ℕ}
-use mathlib.Core.Path.{◌≡◌, refl, sym, ◌∙◌, ap}
+use mathlib.Core.Path.{◌≡◌, refl, sym, ◌∙◌, ap, subst}
 use mathlib.Core.List.{List, [], ◌∷◌, ◌++◌, map, append_assoc, append-nil, Memᴰ}
 use mathlib.Core.Bool.{Bool, true}
 use borrow.Author.Tests.{eqb-true, eqb-false}
@@ -50,7 +50,9 @@ module _ (es : List Entry) (r : Slice) (s : Store) (h : is_live (card s r.on) �
   hung-links q rs =
       cases (eqb r.on q)
       (λ e. let qe : r.on ≡ q = eqb-true r.on q e in
-      rw (e, ← qe, hung-card) (append_assoc (links s r.on) (link_to es r ∷ []) (gains es r.on rs)))
+      let self : eqb r.on r.on ≡ true = rw (← qe) at e in
+      subst (λ x. links hung x ++ gains es x rs ≡ links s x ++ gains es x (r ∷ rs)) qe
+      (rw (self, hung-card) (append_assoc (links s r.on) (link_to es r ∷ []) (gains es r.on rs))))
       (λ e. rw (e, hung-other q (λ d. eqb-false r.on q e (sym d))))
 
 -- ---- all of them

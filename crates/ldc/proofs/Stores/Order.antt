@@ -109,7 +109,7 @@ oldest-out s k p ps rest =
     rw (e, find-append k (newest s ps) (table s p)) (or_else-assoc (find k (newest s ps)) (find k (table s p)) rest)
   where
     map-flat : (qs : List ℕ) → flat (map (table s) (qs ++ (p ∷ []))) ≡ flat (map (table s) qs) ++ table s p
-    map-flat qs = elim qs [ [] ↦ append-nil (table s p) | q ∷ (qs → h) ↦ ap (λ (es : List Entry). table s q ++ es) h ∙ sym (append_assoc (table s q) (flat (map (table s) qs)) (table s p)) ]
+    map-flat qs = elim qs as (λ ps. flat (map (table s) (ps ++ (p ∷ []))) ≡ flat (map (table s) ps) ++ table s p) [ [] ↦ append-nil (table s p) | q ∷ (qs → h) ↦ ap (λ (es : List Entry). table s q ++ es) h ∙ sym (append_assoc (table s q) (flat (map (table s) qs)) (table s p)) ]
 
 -- From a level below any: no table behind it holds its keys.
 pub table-out : (s : Store) (k low p : ℕ) (xs ys : List ℕ) (rest : Option Entry)

@@ -1,7 +1,7 @@
 -- What writing tables to places leaves: the places taken were free and are live without links, each with its table; all else is as it was.
 -- By induction on the tables; that the places differ is a count, since a card is live at most once.
 use Prim.Native.Nat.{ℕ, suc, ◌+◌, ◌≤◌, ◌<◌}
-use mathlib.Core.Path.{◌≡◌, refl, sym, ◌∙◌, ap, ap₂}
+use mathlib.Core.Path.{◌≡◌, refl, sym, ◌∙◌, ap, ap₂, subst}
 use mathlib.Core.List.{List, [], ◌∷◌, map, Memᴰ}
 use mathlib.Core.Logic.{⊎_elim}
 use mathlib.Core.Bool.{true, false}
@@ -112,7 +112,9 @@ module _ (t : List Entry) (ts : List (List Entry)) (s s' : Store) (places : List
   wrote-counted q =
       cases (eqb q (place_taken s))
       (λ e. let same : q ≡ place_taken s = eqb-true q (place_taken s) e in
-      rw e (rw same (let c = w.counted (place_taken s) in let h = here in let b = before in omega arith)))
+      let self : eqb (place_taken s) (place_taken s) ≡ true = rw same at e in
+      subst (λ x. one (is_live (card s' x)) ≡ one (is_live (card s x)) + how_many (eqb x) (place_taken s ∷ places)) (sym same)
+      (rw self (let c = w.counted (place_taken s) in let h = here in let b = before in omega arith)))
       (λ e. rw e (w.counted q ∙ ap (λ c. one (is_live c) + how_many (eqb q) places) (card-written-other t s q (eqb-false q (place_taken s) e))))
 
   wrote_kept : (q : ℕ) → how_many (eqb q) (place_taken s ∷ places) ≡ 0 → (card s' q ≡ card s q) × (bytes_at s' q ≡ bytes_at s q)

@@ -16,65 +16,57 @@ room : (b : tie.Start) → let a = b.args in
     Rooms (head_bytes (length a.cards.now) a.head.now) (cards_bytes a.cards.now) (lists_bytes (length a.cards.now) a.lists.now a.head.now) (memory_bytes (entries a.memory.now)) (length a.out.now)
 room b = let a = b.args in rooms a.cards.now a.lists.now a.head.now a.memory.now b.requires.1
 
-put-head-requires : tie.Need-put-head-requires
+put-head-requires : tie.Need-put_head-head_end-requires
 put-head-requires c κs =
-    let b = c.before.before.before in
-    (b.requires.0.marks, omega (arith, (room b).one, length-head (length b.args.cards.now) b.args.head.now))
+    let b = c in
+    (b.requires.0.marks, omega (arith, (room b.before.before.before).one, length-head (length b.args.cards.now) b.args.head.now))
 
-put-cards-requires : tie.Need-put-cards-requires
+put-cards-requires : tie.Need-put_cards-cards_end-requires
 put-cards-requires c κs =
-    let p = c.before.before.before in
-    let b = p.before.before.before.before in
-    (b.requires.0.rows, put-room p.put-head.ensures _ (room b).two)
+    let p = c in
+    let b = p in
+    (b.requires.0.rows, put-room p.put_head-head_end.ensures _ (room b.before.before.before.before.before.before.before).two)
 
-put-lists-requires : tie.Need-put-lists-requires
+put-lists-requires : tie.Need-put_lists-lists_end-requires
 put-lists-requires c κs =
-    let q = c.before.before.before in
-    let p = q.before.before.before.before in
-    let b = p.before.before.before.before in
-    (b.requires.0.sized, (b.requires.0.counted.lengths, put-room (put_then p.put-head.ensures q.put-cards.ensures) _ (room b).three))
+    let q = c in
+    let p = q in
+    let b = p in
+    (b.requires.0.sized, (b.requires.0.counted.lengths, put-room (put_then p.put_head-head_end.ensures q.put_cards-cards_end.ensures) _ (room b.before.before.before.before.before.before.before.before.before.before.before).three))
 
-put-memory-requires : tie.Need-put-memory-requires
+put-memory-requires : tie.Need-put_memory-end-requires
 put-memory-requires c κs =
-    let r = c.before.before.before.before in
-    let q = r.before.before.before.before in
-    let p = q.before.before.before.before in
-    let b = p.before.before.before.before in
-    (b.requires.0.counted.held, put-room (put_then (put_then p.put-head.ensures q.put-cards.ensures) r.put-lists.ensures) _ (room b).four)
+    let r = c in
+    let q = r in
+    let p = q in
+    let b = p in
+    (b.requires.0.counted.held, put-room (put_then (put_then p.put_head-head_end.ensures q.put_cards-cards_end.ensures) r.put_lists-lists_end.ensures) _ (room b.before.before.before.before.before.before.before.before.before.before.before.before.before.before.before.before).four)
 
 put-requires : tie.Need-put-requires
 put-requires c κs =
-    let s = c.before.before.before in
-    let r = s.before.before.before.before.before in
-    let q = r.before.before.before.before in
-    let p = q.before.before.before.before in
-    let all = put_then (put_then (put_then p.put-head.ensures q.put-cards.ensures) r.put-lists.ensures) s.put-memory.ensures in
-    omega (arith, (room p.before.before.before.before).one, put-long all)
+    let s = c in
+    let r = s in
+    let q = r in
+    let p = q in
+    let all = put_then (put_then (put_then p.put_head-head_end.ensures q.put_cards-cards_end.ensures) r.put_lists-lists_end.ensures) s.put_memory-end.ensures in
+    omega (arith, (room p.before.before.before.before.before.before.before.before.before.before.before.before.before.before.before.before.before.before.before.before).one, put-long all)
 
-same_length : tie.Need-same-length
+same_length : tie.Need-shape_of-out
 same_length c = search rules
 
 returns : tie.Need-returns
 returns c =
-    let k = c.before.before in
-    let s = k.before.before.before.before in
-    let r = s.before.before.before.before.before in
-    let q = r.before.before.before.before in
-    let p = q.before.before.before.before in
-    let a = p.before.before.before.before.args in
-    let all = put_then (put_then (put_then p.put-head.ensures q.put-cards.ensures) r.put-lists.ensures) s.put-memory.ensures in
+    let k = c in
+    let s = k in
+    let r = s in
+    let q = r in
+    let p = q in
+    let a = p.args in
+    let all = put_then (put_then (put_then p.put_head-head_end.ensures q.put_cards-cards_end.ensures) r.put_lists-lists_end.ensures) s.put_memory-end.ensures in
     k.put.ensures
     ∙ whole-put a.cards.now a.lists.now a.head.now a.memory.now
     (put_as all (fields-put a.cards.now a.lists.now a.head.now a.memory.now))
 
 pub write_spec : {M : Type 1} → statement M
 write_spec =
-    tie.close
-    (tie.spec
-    put-head-requires
-    put-cards-requires
-    put-lists-requires
-    put-memory-requires
-    put-requires
-    same_length
-    returns)
+    tie.close (tie.spec put-head-requires put-cards-requires put-lists-requires put-memory-requires put-requires same_length returns)

@@ -12,57 +12,46 @@ use native.Mathlib.Omega.{arith}
 use Rattle.store_make.proofs.empty_lists.Statement.{statement}
 use Rattle.store_make.proofs.empty_lists.Tie as tie
 
-abbrev invariant-loop : tie.invariant-loop
+abbrev invariant-loop : tie.invariant-loop-i
 invariant-loop lists₀ i₀ lists i = (i ≤ length lists₀) × (length lists ≡ length lists₀) × (zeros (length lists₀) ≡ sets lists i (zeros (length lists₀ - i)))
 
-abbrev decreases-loop : tie.decreases-loop
+abbrev decreases-loop : tie.decreases-loop-i
 decreases-loop lists₀ i₀ lists i = length lists₀ - i
 
-loop-holds : tie.Need-loop-init invariant-loop decreases-loop
+loop-holds : tie.Need-loop-i-init invariant-loop decreases-loop
 loop-holds c =
     let s = c.args.lists.now in
     (omega arith, refl, rw sub-zero (sym (sets-all s (zeros (length s)) (length-zeros (length s)))))
 
-mul-lists : tie.Need-overflow-mul-lists invariant-loop decreases-loop
+mul-lists : tie.Need-offset_bounds-lists-i invariant-loop decreases-loop
 mul-lists c = omega arith
 
-slice-write-lists : tie.Need-slice-write-lists invariant-loop decreases-loop
+slice-write-lists : tie.Need-bounds-lists-i invariant-loop decreases-loop
 slice-write-lists c = omega arith
 
-add-i : tie.Need-overflow-add-i invariant-loop decreases-loop
+add-i : tie.Need-overflow_add-i invariant-loop decreases-loop
 add-i c = omega arith
 
-loop-less : tie.Need-loop-smaller invariant-loop decreases-loop
+loop-less : tie.Need-loop-i-smaller invariant-loop decreases-loop
 loop-less c = omega arith
 
-loop-again : tie.Need-loop-preserved invariant-loop decreases-loop
+loop-again : tie.Need-loop-i-preserved invariant-loop decreases-loop
 loop-again c =
-    let l = c.before.loop in
-    let n = length c.before.before.args.lists.now in
+    let l = c.loop-i in
+    let n = length c.args.lists.now in
     (omega arith, simp length-set l.invariant.1, l.invariant.2 ∙ wipe-turn l.lists n l.i (omega arith))
 
-same_length : tie.Need-same-length invariant-loop decreases-loop
-same_length c = c.before.loop.invariant.1
+same_length : tie.Need-shape_of-lists invariant-loop decreases-loop
+same_length c = c.loop-i.invariant.1
 
 returns : tie.Need-returns invariant-loop decreases-loop
 unfolding zeros
 returns c =
-    let l = c.before.loop in
-    let e : length c.before.before.args.lists.now - l.i ≡ 0 = omega arith in
+    let l = c.loop-i in
+    let e : length c.args.lists.now - l.i ≡ 0 = omega arith in
     let inv = l.invariant.2 in
     sym (rw e at inv)
 
-pub empty-lists-spec : {M : Type 1} → statement M
-empty-lists-spec =
-    tie.close
-    (tie.spec
-    invariant-loop
-    decreases-loop
-    loop-holds
-    mul-lists
-    slice-write-lists
-    add-i
-    loop-less
-    loop-again
-    same_length
-    returns)
+pub empty_lists_spec : {M : Type 1} → statement M
+empty_lists_spec =
+    tie.close (tie.spec invariant-loop decreases-loop loop-holds mul-lists slice-write-lists add-i loop-less loop-again same_length returns)

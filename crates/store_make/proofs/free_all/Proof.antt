@@ -15,13 +15,13 @@ use native.Mathlib.Omega.{arith}
 use Rattle.store_make.proofs.free_all.Statement.{statement}
 use Rattle.store_make.proofs.free_all.Tie as tie
 
-abbrev invariant-loop : tie.invariant-loop
+abbrev invariant-loop : tie.invariant-loop-i
 invariant-loop cards₀ i₀ cards i = (length cards ≡ length cards₀) × (all_free cards₀ ≡ sets cards i (all_free (drop i cards)))
 
-abbrev decreases-loop : tie.decreases-loop
+abbrev decreases-loop : tie.decreases-loop-i
 decreases-loop cards₀ i₀ cards i = length cards₀ - i
 
-loop-holds : tie.Need-loop-init invariant-loop decreases-loop
+loop-holds : tie.Need-loop-i-init invariant-loop decreases-loop
 unfolding all_free
 loop-holds c =
     let rows = c.args.cards.now in
@@ -30,39 +30,29 @@ loop-holds c =
 free-requires : tie.Need-free-requires invariant-loop decreases-loop
 free-requires c κs = omega arith
 
-add-i : tie.Need-overflow-add-i invariant-loop decreases-loop
+add-i : tie.Need-overflow_add-i invariant-loop decreases-loop
 add-i c = omega arith
 
-loop-less : tie.Need-loop-smaller invariant-loop decreases-loop
+loop-less : tie.Need-loop-i-smaller invariant-loop decreases-loop
 loop-less c = omega arith
 
-loop-again : tie.Need-loop-preserved invariant-loop decreases-loop
+loop-again : tie.Need-loop-i-preserved invariant-loop decreases-loop
 loop-again c =
-    let l = c.before.before.before.before.loop in
-    let e = c.before.free.ensures in
+    let l = c.loop-i in
+    let e = c.free.ensures in
     (rw e (simp length-set l.invariant.0), rw e (l.invariant.1 ∙ free-all-turn l.cards l.i (omega arith)))
 
-same_length : tie.Need-same-length invariant-loop decreases-loop
-same_length c = c.before.loop.invariant.0
+same_length : tie.Need-shape_of-cards invariant-loop decreases-loop
+same_length c = c.loop-i.invariant.0
 
 returns : tie.Need-returns invariant-loop decreases-loop
 unfolding all_free
 returns c =
-    let l = c.before.loop in
+    let l = c.loop-i in
     let none : drop l.i l.cards ≡ [] = drop_of_length-le l.cards {i = l.i} (omega arith) in
     let inv = l.invariant.1 in
     sym (rw none at inv)
 
-pub free-all-spec : {M : Type 1} → statement M
-free-all-spec =
-    tie.close
-    (tie.spec
-    invariant-loop
-    decreases-loop
-    loop-holds
-    free-requires
-    add-i
-    loop-less
-    loop-again
-    same_length
-    returns)
+pub free_all_spec : {M : Type 1} → statement M
+free_all_spec =
+    tie.close (tie.spec invariant-loop decreases-loop loop-holds free-requires add-i loop-less loop-again same_length returns)

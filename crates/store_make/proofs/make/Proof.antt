@@ -18,56 +18,46 @@ sizes-requires c κs = search rules
 -- The memory as it was lent.
 abbrev found : tie.After-sizes → Lent
 found c =
-    let a = c.before.before.before.args in
+    let a = c.args in
     lent a.area.now a.cards.now a.lists.now a.head.now a.memory.now
 
 -- What was not refused has good sizes.
-good : (c : tie.Else1) → sizes_good (found c.before) ≡ true
-good c = sym (c.before.sizes.ensures (found c.before) refl refl refl) ∙ not-false _ c.if1.false
+good : (c : tie.Else-not-sizes) → sizes_good (found c.before) ≡ true
+good c = sym (c.sizes.ensures (found c.before) refl refl refl) ∙ c.if-not-sizes.false
 
-returns : tie.Need-returns
+returns : tie.Need-returns-then-not-sizes
 returns c =
     let m = found c.before in
-    refused-1 m c.before.before.before.before.args.threshold (sym (c.before.sizes.ensures m refl refl refl) ∙ not-true _ c.if1.true)
+    refused-1 m c.args.threshold (sym (c.sizes.ensures m refl refl refl) ∙ c.if-not-sizes.true)
 
-returns-2 : tie.Need-returns-2
+returns-2 : tie.Need-returns-then-not-threshold
 unfolding threshold_good
-returns-2 c = refused-2 (found c.before.before) c.before.before.before.before.before.args.threshold (good c.before) (not-true _ c.if2.true)
+returns-2 c = refused-2 (found c.before.before) c.args.threshold (good c.before) (c.if-not-threshold.true)
 
-free-all-requires : tie.Need-free-all-requires
+free-all-requires : tie.Need-free_all-requires
 free-all-requires c κs = search rules
 
-empty-lists-requires : tie.Need-empty-lists-requires
+empty-lists-requires : tie.Need-empty_lists-requires
 empty-lists-requires c κs = search rules
 
 clear-requires : tie.Need-clear-requires
 clear-requires c κs = search rules
 
-same_length : tie.Need-same-length
+same_length : tie.Need-shape_of-cards
 same_length c = search rules
 
-same-length-2 : tie.Need-same-length-2
+same-length-2 : tie.Need-shape_of-lists
 same-length-2 c = search rules
 
-returns-3 : tie.Need-returns-3
+returns-3 : tie.Need-returns
 unfolding threshold_good zeros
 returns-3 c =
-    let d = c.before.before.before.before.before.before.before.before.before.before in
-    let freed = c.before.before.before.before.before.before.before.before in
-    let emptied = c.before.before.before.before.before in
-    let last = lent_same (found d.before.before).area freed.free_all.ensures emptied.empty-lists.ensures refl c.clear.ensures in
-    ap (made 0) last ∙ new-made (found d.before.before) d.before.before.before.before.before.args.threshold (good d.before) (not-false _ d.if2.false)
+    let d = c in
+    let freed = c in
+    let emptied = c in
+    let last = lent_same (found d.before.before.before.before.before.before.before.before.before.before.before.before).area freed.free_all.ensures emptied.empty_lists.ensures refl c.clear.ensures in
+    ap (made 0) last ∙ new-made (found d.before.before.before.before.before.before.before.before.before.before.before.before) d.args.threshold (good d.before.before.before.before.before.before.before.before.before.before.before) (d.if-not-threshold.false)
 
 pub make_spec : {M : Type 1} → statement M
 make_spec =
-    tie.close
-    (tie.spec
-    sizes-requires
-    returns
-    returns-2
-    free-all-requires
-    empty-lists-requires
-    clear-requires
-    same_length
-    same-length-2
-    returns-3)
+    tie.close (tie.spec sizes-requires returns returns-2 free-all-requires empty-lists-requires clear-requires same_length same-length-2 returns-3)

@@ -9,27 +9,26 @@ use Rattle.store_owned.proofs.go_on.Tie as tie
 serve-requires : tie.Need-serve-requires
 serve-requires c κs = search rules
 
-same_length : tie.Need-same-length
+same_length : tie.Need-shape_of-area
 same_length c = search rules
 
-same-length-2 : tie.Need-same-length-2
+same-length-2 : tie.Need-shape_of-rows
 same-length-2 c = search rules
 
-same-length-3 : tie.Need-same-length-3
+same-length-3 : tie.Need-shape_of-lists
 same-length-3 c = search rules
 
-same-length-4 : tie.Need-same-length-4
+same-length-4 : tie.Need-shape_of-answer
 same-length-4 c = search rules
 
 returns : tie.Need-returns
 returns c =
-    let s = c.before.before.before.before.before.before.before in
-    let start = s.before.before.before.before.before.before.before.before.before.before.before in
+    let s = c in
+    let start = s in
     let d = s.serve.ensures in
     let follow = rows-follow _ _ _ _ _ d.1.1 start.requires in
     rw (start.requires, follow) ((d.0 ∙ sym (run-same _ _ _ _ (ap length start.requires)), d.1.0), refl)
 
-pub go-on-spec : {M : Type 1} → statement M
-go-on-spec =
-    tie.close
-    (tie.spec serve-requires same_length same-length-2 same-length-3 same-length-4 returns)
+pub go_on_spec : {M : Type 1} → statement M
+go_on_spec =
+    tie.close (tie.spec serve-requires same_length same-length-2 same-length-3 same-length-4 returns)

@@ -12,52 +12,41 @@ use Rattle.ldc.specs.Layout.{row_size}
 use Rattle.store_run.proofs.rows_wide.Statement.{statement}
 use Rattle.store_run.proofs.rows_wide.Tie as tie
 
-abbrev invariant-loop : tie.invariant-loop
+abbrev invariant-loop : tie.invariant-loop-p
 invariant-loop cards p₀ p = (p ≤ length cards) × ((q : ℕ) → q < p → length (get_or cards q []) ≡ row_size)
 
-abbrev decreases-loop : tie.decreases-loop
+abbrev decreases-loop : tie.decreases-loop-p
 decreases-loop cards p₀ p = length cards - p
 
-loop-holds : tie.Need-loop-init invariant-loop decreases-loop
+loop-holds : tie.Need-loop-p-init invariant-loop decreases-loop
 loop-holds c = (omega arith, λ q h. absurd (omega arith))
 
-mul-row-wide : tie.Need-overflow-mul-row-wide invariant-loop decreases-loop
+mul-row-wide : tie.Need-offset_bounds-cards-p invariant-loop decreases-loop
 mul-row-wide c = search rules
 
-shared-slice-element-row-wide : tie.Need-shared-slice-element-row-wide invariant-loop decreases-loop
+shared-slice-element-row-wide : tie.Need-bounds-cards-p invariant-loop decreases-loop
 shared-slice-element-row-wide c = search rules
 
-row-wide-requires : tie.Need-row-wide-requires invariant-loop decreases-loop
+row-wide-requires : tie.Need-row_wide-requires invariant-loop decreases-loop
 row-wide-requires c κs = search rules
 
-add-p : tie.Need-overflow-add-p invariant-loop decreases-loop
+add-p : tie.Need-overflow_add-p invariant-loop decreases-loop
 add-p c = search rules
 
-loop-less : tie.Need-loop-smaller invariant-loop decreases-loop
-loop-less c = omega (arith, c.before.before.loop-test.true)
+loop-less : tie.Need-loop-p-smaller invariant-loop decreases-loop
+loop-less c = omega (arith, c.loop-p-test.true)
 
-loop-again : tie.Need-loop-preserved invariant-loop decreases-loop
+loop-again : tie.Need-loop-p-preserved invariant-loop decreases-loop
 loop-again c =
-    let i = c.before.before in
-    let l = i.before.loop in (
-      omega (arith, i.loop-test.true),
-      λ q h. cases (eqb q l.p) (λ e. rw (eqb-true q l.p e) c.row-wide.ensures) (λ e. l.invariant.1 q (omega (arith, eqb-false q l.p e))),
+    let i = c in
+    let l = i.loop-p in (
+      omega (arith, i.loop-p-test.true),
+      λ q h. cases (eqb q l.p) (λ e. rw (eqb-true q l.p e) c.row_wide.ensures) (λ e. l.invariant.1 q (omega (arith, eqb-false q l.p e))),
     )
 
 returns : tie.Need-returns invariant-loop decreases-loop
-returns c = λ q h. c.before.loop.invariant.1 q (omega (arith, c.loop-test.false))
+returns c = λ q h. c.loop-p.invariant.1 q (omega (arith, c.loop-p-test.false))
 
-pub rows-wide-spec : {M : Type 1} → statement M
-rows-wide-spec =
-    tie.close
-    (tie.spec
-    invariant-loop
-    decreases-loop
-    loop-holds
-    mul-row-wide
-    shared-slice-element-row-wide
-    row-wide-requires
-    add-p
-    loop-less
-    loop-again
-    returns)
+pub rows_wide_spec : {M : Type 1} → statement M
+rows_wide_spec =
+    tie.close (tie.spec invariant-loop decreases-loop loop-holds mul-row-wide shared-slice-element-row-wide row-wide-requires add-p loop-less loop-again returns)

@@ -9,5 +9,6 @@ sizes-requires c κs = search rules
 returns : tie.Need-returns
 returns c = λ m w a k n l. rw (n, k, c.sizes.ensures m a k l)
 
-pub fits-spec : {M : Type 1} → statement M
-fits-spec = tie.close (tie.spec sizes-requires returns)
+pub fits_spec : {M : Type 1} → statement M
+fits_spec =
+    tie.close (tie.spec sizes-requires returns)

@@ -5,30 +5,30 @@ use lib.ListN.{length}
 use Rattle.store_structs.proofs.make_rows.Statement.{statement}
 use Rattle.store_structs.proofs.make_rows.Tie as tie
 
-returns : tie.Need-returns
+returns : tie.Need-returns-then-rows-cards
 returns c =
-    let a = c.before.before.before.args in
-    rw (ne_eqb (length a.rows.now) a.cards c.if1.true)
+    let a = c.args in
+    rw (ne_eqb (length a.rows.now) a.cards c.if-rows-cards.true)
 
 make-requires : tie.Need-make-requires
 make-requires c κs = search rules
 
-same_length : tie.Need-same-length
+same_length : tie.Need-shape_of-area
 same_length c = search rules
 
-same-length-2 : tie.Need-same-length-2
+same-length-2 : tie.Need-shape_of-rows
 same-length-2 c = search rules
 
-same-length-3 : tie.Need-same-length-3
+same-length-3 : tie.Need-shape_of-lists
 same-length-3 c = search rules
 
-returns-2 : tie.Need-returns-2
+returns-2 : tie.Need-returns
 returns-2 c =
-    let d = c.before.before.before.before.before in
-    let i = d.before.before.before.before.before.before in
-    let a = i.before.before.before.args in
-    rw (eq-eqb (length a.rows.now) a.cards i.if1.false) d.make.ensures
+    let d = c in
+    let i = d in
+    let a = i.args in
+    rw (eq-eqb (length a.rows.now) a.cards i.if-rows-cards.false) d.make.ensures
 
-pub make-rows-spec : {M : Type 1} → statement M
-make-rows-spec =
+pub make_rows_spec : {M : Type 1} → statement M
+make_rows_spec =
     tie.close (tie.spec returns make-requires same_length same-length-2 same-length-3 returns-2)

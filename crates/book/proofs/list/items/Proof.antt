@@ -6,30 +6,29 @@ use Rattle.book.proofs.list.items.Statement.{statement}
 use Rattle.book.proofs.list.items.Tie as tie
 use Rattle.ldc.specs.Layout.{level_count}
 
-mul-start : tie.Need-overflow-mul-start
+mul-start : tie.Need-overflow_mul-start
 mul-start c = omega (arith, part-fits c.args.n level_count c.args.places (omega arith))
 
-add-result : tie.Need-overflow-add-result
+add-result : tie.Need-overflow_add-result
 add-result c = omega (arith, part-fits c.args.n level_count c.args.places (omega arith))
 
-mul-result : tie.Need-overflow-mul-result
+mul-result : tie.Need-offset_bounds-lists-start
 mul-result c = omega (arith, part-fits c.args.n level_count c.args.places (omega arith))
 
-sub-result : tie.Need-overflow-sub-result
+sub-result : tie.Need-slice_bounds-result-count
 sub-result c = search rules
 
-part-result-start : tie.Need-slice-bounds-result-start
+part-result-start : tie.Need-slice_bounds-result-start
 part-result-start c = search rules
 
-part-result-end : tie.Need-slice-bounds-result-end
+part-result-end : tie.Need-slice_bounds-result-end
 part-result-end c = omega (arith, part-fits c.args.n level_count c.args.places (omega arith))
 
 returns : tie.Need-returns
 returns c =
-    let a = c.before.args in
+    let a = c.args in
     items-part a.places a.lists.now a.len a.n (omega arith)
 
-pub items-spec : {M : Type 1} → statement M
-items-spec =
-    tie.close
-    (tie.spec mul-start add-result mul-result sub-result part-result-start part-result-end returns)
+pub items_spec : {M : Type 1} → statement M
+items_spec =
+    tie.close (tie.spec mul-start add-result mul-result sub-result part-result-start part-result-end returns)

@@ -6,39 +6,30 @@ use Rattle.book.proofs.list.rest.Statement.{statement}
 use Rattle.book.proofs.list.rest.Tie as tie
 use Rattle.ldc.specs.Layout.{level_count}
 
-mul-start : tie.Need-overflow-mul-start
+mul-start : tie.Need-overflow_mul-start
 mul-start c = omega (arith, part-fits c.args.n level_count c.args.places (omega arith))
 
-add-result : tie.Need-overflow-add-result
+add-result : tie.Need-overflow_add-result
 add-result c = omega (arith, part-fits c.args.n level_count c.args.places (omega arith))
 
-add-result-2 : tie.Need-overflow-add-result-2
+add-result-2 : tie.Need-overflow_add-result-2
 add-result-2 c = omega (arith, part-fits c.args.n level_count c.args.places (omega arith))
 
-mul-result : tie.Need-overflow-mul-result
+mul-result : tie.Need-offset_bounds-lists-start
 mul-result c = omega (arith, part-fits c.args.n level_count c.args.places (omega arith))
 
-sub-result : tie.Need-overflow-sub-result
+sub-result : tie.Need-slice_bounds-result-count
 sub-result c = search rules
 
-part-result-start : tie.Need-slice-bounds-result-start
+part-result-start : tie.Need-slice_bounds-result-start
 part-result-start c = search rules
 
-part-result-end : tie.Need-slice-bounds-result-end
+part-result-end : tie.Need-slice_bounds-result-end
 part-result-end c = omega (arith, part-fits c.args.n level_count c.args.places (omega arith))
 
 returns : tie.Need-returns
-returns c = rest_part c.before.args.places c.before.args.lists.now c.before.args.len c.before.args.n (omega arith)
+returns c = rest_part c.args.places c.args.lists.now c.args.len c.args.n (omega arith)
 
-pub rest-spec : {M : Type 1} → statement M
-rest-spec =
-    tie.close
-    (tie.spec
-    mul-start
-    add-result
-    add-result-2
-    mul-result
-    sub-result
-    part-result-start
-    part-result-end
-    returns)
+pub rest_spec : {M : Type 1} → statement M
+rest_spec =
+    tie.close (tie.spec mul-start add-result add-result-2 mul-result sub-result part-result-start part-result-end returns)

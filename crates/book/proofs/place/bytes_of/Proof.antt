@@ -6,27 +6,27 @@ use Rattle.book.proofs.Area.{place-long, place-part}
 use Rattle.book.proofs.place.bytes_of.Statement.{statement}
 use Rattle.book.proofs.place.bytes_of.Tie as tie
 
-mul_at : tie.Need-overflow-mul-at
+mul_at : tie.Need-overflow_mul-at
 mul_at c = search rules
 
-add-result : tie.Need-overflow-add-result
+add-result : tie.Need-overflow_add-result
 add-result c = search rules
 
-sub-result : tie.Need-overflow-sub-result
+sub-result : tie.Need-slice_bounds-result-count
 sub-result c = search rules
 
-part-result-start : tie.Need-slice-bounds-result-start
+part-result-start : tie.Need-slice_bounds-result-start
 part-result-start c = search rules
 
-part-result-end : tie.Need-slice-bounds-result-end
+part-result-end : tie.Need-slice_bounds-result-end
 part-result-end c = search rules
 
 returns : tie.Need-returns
 returns c =
-    let area = c.before.args.area.now in
-    let p = c.before.args.p in
-    (place-part area p, ap length (place-part area p) ∙ place-long area p c.before.requires)
+    let area = c.args.area.now in
+    let p = c.args.p in
+    (place-part area p, ap length (place-part area p) ∙ place-long area p c.requires)
 
-pub bytes-of-spec : {M : Type 1} → statement M
-bytes-of-spec =
+pub bytes_of_spec : {M : Type 1} → statement M
+bytes_of_spec =
     tie.close (tie.spec mul_at add-result sub-result part-result-start part-result-end returns)

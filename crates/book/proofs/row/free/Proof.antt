@@ -7,13 +7,13 @@ use borrow.Author.Rules.{rules}
 use Rattle.book.proofs.row.free.Statement.{statement}
 use Rattle.book.proofs.row.free.Tie as tie
 
-mul-t4 : tie.Need-overflow-mul-t4
+mul-t4 : tie.Need-offset_bounds-cards-p
 mul-t4 c = search rules
 
-slice-set-from-cards : tie.Need-slice-set-from-cards
+slice-set-from-cards : tie.Need-bounds-cards-p
 slice-set-from-cards c = search rules
 
-same_length : tie.Need-same-length
+same_length : tie.Need-shape_of-cards
 same_length c = search rules
 
 returns : tie.Need-returns
@@ -21,4 +21,5 @@ unfolding zeros
 returns c = ap (set c.args.cards.now c.args.p) free-row
 
 pub free_spec : {M : Type 1} → statement M
-free_spec = tie.close (tie.spec mul-t4 slice-set-from-cards same_length returns)
+free_spec =
+    tie.close (tie.spec mul-t4 slice-set-from-cards same_length returns)

@@ -5,11 +5,12 @@ use Rattle.book.proofs.Rows.{free-state}
 use Rattle.book.proofs.row.is_free.Statement.{statement}
 use Rattle.book.proofs.row.is_free.Tie as tie
 
-state-requires : tie.Need-state-requires
+state-requires : tie.Need-state-s-requires
 state-requires c κs = search rules
 
 returns : tie.Need-returns
-returns c = rw c.state.ensures (sym (free-state _))
+returns c = rw c.state-s.ensures (sym (free-state _))
 
-pub is-free-spec : {M : Type 1} → statement M
-is-free-spec = tie.close (tie.spec state-requires returns)
+pub is_free_spec : {M : Type 1} → statement M
+is_free_spec =
+    tie.close (tie.spec state-requires returns)

@@ -11,5 +11,6 @@ state-requires c κs = search rules
 returns : tie.Need-returns
 returns c = rw c.state.ensures (sym (frozen-state _))
 
-pub is-frozen-spec : {M : Type 1} → statement M
-is-frozen-spec = tie.close (tie.spec state-requires returns)
+pub is_frozen_spec : {M : Type 1} → statement M
+is_frozen_spec =
+    tie.close (tie.spec state-requires returns)

@@ -11,5 +11,6 @@ state-requires c κs = search rules
 returns : tie.Need-returns
 returns c = rw c.state.ensures (sym (live_state _))
 
-pub is-live-spec : {M : Type 1} → statement M
-is-live-spec = tie.close (tie.spec state-requires returns)
+pub is_live_spec : {M : Type 1} → statement M
+is_live_spec =
+    tie.close (tie.spec state-requires returns)

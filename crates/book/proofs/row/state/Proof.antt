@@ -5,12 +5,13 @@ use Rattle.ldc.specs.Layout.{state_of}
 use Rattle.book.proofs.row.state.Statement.{statement}
 use Rattle.book.proofs.row.state.Tie as tie
 
-element-copy-out-result : tie.Need-element-copy-out-result
+element-copy-out-result : tie.Need-bounds-row-0
 element-copy-out-result c = search rules
 
 returns : tie.Need-returns
 unfolding state_of
 returns c = refl
 
-pub state-spec : {M : Type 1} → statement M
-state-spec = tie.close (tie.spec element-copy-out-result returns)
+pub state_spec : {M : Type 1} → statement M
+state_spec =
+    tie.close (tie.spec element-copy-out-result returns)

@@ -4,7 +4,7 @@ use borrow.Author.Rules.{rules}
 use Rattle.book.proofs.sizes.sizes.Statement.{statement}
 use Rattle.book.proofs.sizes.sizes.Tie as tie
 
-mul-result : tie.Need-overflow-mul-result
+mul-result : tie.Need-overflow_mul-result
 mul-result c = search rules
 
 returns : tie.Need-returns
@@ -12,5 +12,6 @@ returns c =
     let a = c.args in
     λ m p q r. sizes-by m a.area a.cards a.lists p q r
 
-pub sizes-spec : {M : Type 1} → statement M
-sizes-spec = tie.close (tie.spec mul-result returns)
+pub sizes_spec : {M : Type 1} → statement M
+sizes_spec =
+    tie.close (tie.spec mul-result returns)

@@ -9,18 +9,18 @@ use Rattle.book_edit.proofs.items.replace.Tie as tie
 remove-requires : tie.Need-remove-requires
 remove-requires c κs = search rules
 
-same_length : tie.Need-same-length
+same_length : tie.Need-shape_of-part-then-k-eq0
 same_length c = search rules
 
-returns : tie.Need-returns
+returns : tie.Need-returns-then-k-eq0
 returns c =
-    let a = c.before.before.before.before.before.before.before.args in
-    c.before.before.remove.ensures ∙ taken_out a.items.now a.part.now a.n a.i c.before.before.before.before.if1.true
+    let a = c.args in
+    c.remove.ensures ∙ taken_out a.items.now a.part.now a.n a.i c.if-k-eq0.true
 
-add-shift : tie.Need-overflow-add-shift
+add-shift : tie.Need-overflow_add-i
 add-shift c = search rules
 
-sub-shift : tie.Need-overflow-sub-shift
+sub-shift : tie.Need-overflow_sub-k
 sub-shift c = search rules
 
 shift-requires : tie.Need-shift-requires
@@ -29,25 +29,15 @@ shift-requires c κs = search rules
 lay-requires : tie.Need-lay-requires
 lay-requires c κs = search rules
 
-same-length-2 : tie.Need-same-length-2
+same-length-2 : tie.Need-shape_of-part
 same-length-2 c = search rules
 
-returns-2 : tie.Need-returns-2
+returns-2 : tie.Need-returns
 returns-2 c =
-    let b = c.before.before.before.before.before.before in
-    let a = b.before.before.before.before.before.args in
-    laid a.items.now a.part.now b.shift.new.0 c.before.before.lay.new.0 a.n a.i (omega arith) b.shift.ensures c.before.before.lay.ensures
+    let b = c in
+    let a = b.args in
+    laid a.items.now a.part.now b.shift.new.part c.lay.new.part a.n a.i (omega arith) b.shift.ensures c.lay.ensures
 
 pub replace_spec : {M : Type 1} → statement M
 replace_spec =
-    tie.close
-    (tie.spec
-    remove-requires
-    same_length
-    returns
-    add-shift
-    sub-shift
-    shift-requires
-    lay-requires
-    same-length-2
-    returns-2)
+    tie.close (tie.spec remove-requires same_length returns add-shift sub-shift shift-requires lay-requires same-length-2 returns-2)

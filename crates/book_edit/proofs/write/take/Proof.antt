@@ -7,10 +7,10 @@ use Rattle.book.specs.declared.head.Position.{Position}
 use Rattle.book_edit.proofs.write.take.Statement.{statement}
 use Rattle.book_edit.proofs.write.take.Tie as tie
 
-take-requires : tie.Need-take-requires
+take-requires : tie.Need-take-taken-requires
 take-requires c κs = search rules
 
-same_length : tie.Need-same-length
+same_length : tie.Need-shape_of-cards
 same_length c = search rules
 
 -- The head with another position.
@@ -19,9 +19,9 @@ positioned h p = record { threshold = h.threshold; position = p; length0 = h.len
 
 returns : tie.Need-returns
 returns c =
-    let taken = c.before.before in
-    let h = taken.before.before.before.args.head in
-    let e = taken.take.ensures in
+    let taken = c in
+    let h = taken.args.head in
+    let e = taken.take-taken.ensures in
     record {
       first = e.first;
       row = e.row;
@@ -29,4 +29,5 @@ returns c =
     }
 
 pub take_spec : {M : Type 1} → statement M
-take_spec = tie.close (tie.spec take-requires same_length returns)
+take_spec =
+    tie.close (tie.spec take-requires same_length returns)

@@ -17,43 +17,43 @@ use Rattle.book.proofs.Rows.{live-summary}
 use Rattle.book_edit.proofs.write.write_table.Statement.{statement}
 use Rattle.book_edit.proofs.write.write_table.Tie as tie
 
-take-requires : tie.Need-take-requires
+take-requires : tie.Need-take-taken-requires
 take-requires c κs = search rules
 
 -- The place taken has a card.
-below : (c : tie.After-take) → c.take.result.place < length c.before.before.before.before.args.cards.now
+below : (c : tie.After-take-taken) → c.take-taken.result.place < length c.args.cards.now
 below c =
-    let b = c.before.before.before.before in
-    (found-free b.args.cards.now (length b.args.cards.now) b.args.head.position.cursor _ b.requires.1.1.0 c.take.ensures.first).0
+    let b = c in
+    (found-free b.args.cards.now (length b.args.cards.now) b.args.head.position.cursor _ b.requires.1.1.0 c.take-taken.ensures.first).0
 
-mul-write-place : tie.Need-overflow-mul-write-place
+mul-write-place : tie.Need-overflow_mul-taken
 mul-write-place c =
-    let k = c.before.before.before in
-    let b = k.before.before.before.before in
-    let h = below k in
+    let k = c in
+    let b = k in
+    let h = below k.before.before.before in
     omega (arith, b.requires.0)
 
-write-place-requires : tie.Need-write-place-requires
+write-place-requires : tie.Need-write_place-requires
 write-place-requires c κs =
-    let k = c.before.before.before in
-    let b = k.before.before.before.before in
-    let h = below k in
+    let k = c in
+    let b = k in
+    let h = below k.before.before.before in
     (omega (arith, b.requires.0), b.requires.1.0.0)
 
-of-table-requires : tie.Need-of-table-requires
+of-table-requires : tie.Need-of_table-requires
 of-table-requires c κs =
-    let k = c.before.before.before.before.before.before.before in
-    k.before.before.before.before.requires.1.0
+    let k = c in
+    k.requires.1.0
 
-set-summary-requires : tie.Need-set-summary-requires
+set-summary-requires : tie.Need-set_summary-requires
 set-summary-requires c κs =
-    let k = c.before.before.before.before.before.before.before.before in
-    rw (k.take.ensures.row, length-set) (below k)
+    let k = c in
+    rw (k.take-taken.ensures.row, length-set) (below k.before.before.before.before.before.before.before.before)
 
-same_length : tie.Need-same-length
+same_length : tie.Need-shape_of-area
 same_length c = search rules
 
-same-length-2 : tie.Need-same-length-2
+same-length-2 : tie.Need-shape_of-cards
 same-length-2 c = search rules
 
 -- The row of the place taken is written twice.
@@ -70,28 +70,19 @@ summed rows mid exit p words table h m e w =
 returns : tie.Need-returns
 unfolding table_summary
 returns c =
-    let t = c.before.before in
-    let k = t.before.before.before.before.before.before.before.before in
-    let b = k.before.before.before.before in
-    let e = k.take.ensures in (
+    let t = c in
+    let k = t in
+    let b = k in
+    let e = k.take-taken.ensures in (
       record {
         first = e.first;
-        row = summed b.args.cards.now _ _ k.take.result.place t.of-table.result b.args.table.now (below k) e.row
-            c.before.set-summary.ensures t.of-table.ensures;
+        row = summed b.args.cards.now _ _ k.take-taken.result.place t.of_table.result b.args.table.now (below k.before.before.before.before.before.before.before.before.before.before) e.row
+            c.set_summary.ensures t.of_table.ensures;
         next = e.next;
       },
       search rules,
     )
 
-pub write-table-spec : {M : Type 1} → statement M
-write-table-spec =
-    tie.close
-    (tie.spec
-    take-requires
-    mul-write-place
-    write-place-requires
-    of-table-requires
-    set-summary-requires
-    same_length
-    same-length-2
-    returns)
+pub write_table_spec : {M : Type 1} → statement M
+write_table_spec =
+    tie.close (tie.spec take-requires mul-write-place write-place-requires of-table-requires set-summary-requires same_length same-length-2 returns)

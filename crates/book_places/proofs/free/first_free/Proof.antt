@@ -15,75 +15,62 @@ use borrow.Author.Rules.{rules}
 use Rattle.book_places.proofs.free.first_free.Statement.{statement}
 use Rattle.book_places.proofs.free.first_free.Tie as tie
 
-abbrev invariant-loop : tie.invariant-loop
+abbrev invariant-loop : tie.invariant-loop-i
 invariant-loop cards from i₀ p₀ i p = (i ≤ length cards) × (p < length cards) × (free_at (length cards) cards from ≡ free_at (length cards - i) cards p)
 
-abbrev decreases-loop : tie.decreases-loop
+abbrev decreases-loop : tie.decreases-loop-i
 decreases-loop cards from i₀ p₀ i p = length cards - i
 
-loop-holds : tie.Need-loop-init invariant-loop decreases-loop
+loop-holds : tie.Need-loop-i-init invariant-loop decreases-loop
 loop-holds c = (omega arith, c.requires, rw sub-zero)
 
-mul-is-free : tie.Need-overflow-mul-is-free invariant-loop decreases-loop
+mul-is-free : tie.Need-offset_bounds-cards-p invariant-loop decreases-loop
 mul-is-free c = omega arith
 
-shared-slice-element-is-free : tie.Need-shared-slice-element-is-free invariant-loop decreases-loop
+shared-slice-element-is-free : tie.Need-bounds-cards-p invariant-loop decreases-loop
 shared-slice-element-is-free c = omega arith
 
-is-free-requires : tie.Need-is-free-requires invariant-loop decreases-loop
+is-free-requires : tie.Need-is_free-requires invariant-loop decreases-loop
 is-free-requires c κs = search rules
 
 -- What is sought is this place, if it is free, or comes after it.
-turned : (c : tie.After-is-free invariant-loop decreases-loop)
-    → let l = c.before.before.before.loop in
-    let a = c.before.before.before.before.args in
+turned : (c : tie.After-is_free invariant-loop decreases-loop)
+    → let l = c.loop-i in
+    let a = c.args in
     free_at (length a.cards.now) a.cards.now a.from
     ≡ cond c.is_free.result (At l.p) (free_at (length a.cards.now - (l.i + 1)) a.cards.now (next_place (length a.cards.now) l.p))
 turned c =
-    let l = c.before.before.before.loop in
-    let rows = c.before.before.before.before.args.cards.now in
+    let l = c.loop-i in
+    let rows = c.args.cards.now in
     rw c.is_free.ensures (l.invariant.2 ∙ free-turn rows (length rows) l.i l.p (omega arith))
 
-returns : tie.Need-returns invariant-loop decreases-loop
-returns c = sym (turned c.before ∙ rw c.if1.true)
+returns : tie.Need-returns-then-is_free invariant-loop decreases-loop
+returns c = sym (turned c.before ∙ rw c.if-is_free.true)
 
-next-requires : tie.Need-next-requires invariant-loop decreases-loop
+next-requires : tie.Need-next-p-requires invariant-loop decreases-loop
 next-requires c κs = omega arith
 
-add-i : tie.Need-overflow-add-i invariant-loop decreases-loop
+add-i : tie.Need-overflow_add-i invariant-loop decreases-loop
 add-i c = omega arith
 
-loop-less : tie.Need-loop-smaller invariant-loop decreases-loop
+loop-less : tie.Need-loop-i-smaller invariant-loop decreases-loop
 loop-less c = omega arith
 
-loop-again : tie.Need-loop-preserved invariant-loop decreases-loop
+loop-again : tie.Need-loop-i-preserved invariant-loop decreases-loop
 loop-again c =
-    let l = c.before.before.before.before.before.loop in
-    let rows = c.before.before.before.before.before.before.args.cards.now in
-    let t = rw c.before.if1.false at (turned c.before.before) in
-    (omega arith, rw c.next.ensures (next-below (length rows) l.p l.invariant.1), rw c.next.ensures t)
+    let l = c.loop-i in
+    let rows = c.args.cards.now in
+    let t = rw c.if-is_free.false at (turned c.before.before) in
+    (omega arith, rw c.next-p.ensures (next-below (length rows) l.p l.invariant.1), rw c.next-p.ensures t)
 
-returns-2 : tie.Need-returns-2 invariant-loop decreases-loop
+returns-2 : tie.Need-returns invariant-loop decreases-loop
 unfolding free_at
 returns-2 c =
-    let l = c.before.loop in
-    let e : length c.before.before.args.cards.now - l.i ≡ 0 = omega arith in
+    let l = c.loop-i in
+    let e : length c.args.cards.now - l.i ≡ 0 = omega arith in
     let inv = l.invariant.2 in
     sym (rw e at inv)
 
-pub first-free-spec : {M : Type 1} → statement M
-first-free-spec =
-    tie.close
-    (tie.spec
-    invariant-loop
-    decreases-loop
-    loop-holds
-    mul-is-free
-    shared-slice-element-is-free
-    is-free-requires
-    returns
-    next-requires
-    add-i
-    loop-less
-    loop-again
-    returns-2)
+pub first_free_spec : {M : Type 1} → statement M
+first_free_spec =
+    tie.close (tie.spec invariant-loop decreases-loop loop-holds mul-is-free shared-slice-element-is-free is-free-requires returns next-requires add-i loop-less loop-again returns-2)

@@ -8,19 +8,20 @@ use native.Mathlib.Omega.{arith}
 use Rattle.book_places.proofs.free.next.Statement.{statement}
 use Rattle.book_places.proofs.free.next.Tie as tie
 
-add-if1 : tie.Need-overflow-add-if1
+add-if1 : tie.Need-overflow_add-p
 add-if1 c = search rules
 
-add-result : tie.Need-overflow-add-result
+add-result : tie.Need-overflow_add-result
 add-result c = search rules
 
-returns : tie.Need-returns
+returns : tie.Need-returns-then-p-size
 unfolding next_place
-returns c = let a = c.before.args in rw (eq-eqb (suc a.p) a.size (omega arith))
+returns c = let a = c.args in rw (eq-eqb (suc a.p) a.size (omega arith))
 
-returns-2 : tie.Need-returns-2
+returns-2 : tie.Need-returns-else-p-size
 unfolding next_place
-returns-2 c = let a = c.before.args in rw (ne_eqb (suc a.p) a.size (λ e. omega arith)) (add-one a.p)
+returns-2 c = let a = c.args in rw (ne_eqb (suc a.p) a.size (λ e. omega arith)) (add-one a.p)
 
-pub next-spec : {M : Type 1} → statement M
-next-spec = tie.close (tie.spec add-if1 add-result returns returns-2)
+pub next_spec : {M : Type 1} → statement M
+next_spec =
+    tie.close (tie.spec add-if1 add-result returns returns-2)

@@ -6,27 +6,26 @@ use Rattle.check_walk.proofs.ApartLaws.{level-parts, level-rising}
 use Rattle.check_links.proofs.apart.level_apart.Statement.{statement}
 use Rattle.check_links.proofs.apart.level_apart.Tie as tie
 
-owns-apart-requires : tie.Need-owns-apart-requires
-owns-apart-requires c κs = c.before.before.before.requires.names
+owns-apart-requires : tie.Need-owns_apart-requires
+owns-apart-requires c κs = c.requires.names
 
-returns : tie.Need-returns
-returns c = sym (level-parts c.before.before.before.before.before.args.cards.now c.before.before.before.before.before.args.items.now ∙ rw (sym c.before.owns-apart.ensures ∙ not-true _ c.if1.true))
+returns : tie.Need-returns-then-not-owns_apart
+returns c = sym (level-parts c.args.cards.now c.args.items.now ∙ rw (sym c.owns_apart.ensures ∙ c.if-not-owns_apart.true))
 
 rise-requires : tie.Need-rise-requires
 rise-requires c κs = search rules
 
-returns-2 : tie.Need-returns-2
+returns-2 : tie.Need-returns-then-rise
 returns-2 c =
-    sym (level-rising c.before.before.before.before.before.before.before.args.area.now c.before.before.before.before.before.before.before.args.cards.now c.before.before.before.before.before.before.before.requires.sized c.before.before.before.before.before.before.before.args.items.now c.before.before.before.before.before.before.before.requires.names c.before.before.before.before.before.before.before.requires.tables (sym c.before.rise.ensures ∙ c.if2.true)
-    ∙ sym c.before.before.before.owns-apart.ensures ∙ not-false _ c.before.before.if1.false)
+    sym (level-rising c.args.area.now c.args.cards.now c.requires.sized c.args.items.now c.requires.names c.requires.tables (sym c.rise.ensures ∙ c.if-rise.true)
+    ∙ sym c.owns_apart.ensures ∙ c.if-not-owns_apart.false)
 
-tables-apart-requires : tie.Need-tables-apart-requires
-tables-apart-requires c κs = c.before.before.before.before.before.before.before.requires.names
+tables-apart-requires : tie.Need-tables_apart-requires
+tables-apart-requires c κs = c.requires.names
 
-returns-3 : tie.Need-returns-3
-returns-3 c = c.tables-apart.ensures ∙ sym (level-parts c.before.before.before.before.before.before.before.before.args.cards.now c.before.before.before.before.before.before.before.before.args.items.now ∙ rw (sym c.before.before.before.before.owns-apart.ensures ∙ not-false _ c.before.before.before.if1.false))
+returns-3 : tie.Need-returns
+returns-3 c = c.tables_apart.ensures ∙ sym (level-parts c.args.cards.now c.args.items.now ∙ rw (sym c.owns_apart.ensures ∙ c.if-not-owns_apart.false))
 
-pub level-apart-spec : {M : Type 1} → statement M
-level-apart-spec =
-    tie.close
-    (tie.spec owns-apart-requires returns rise-requires returns-2 tables-apart-requires returns-3)
+pub level_apart_spec : {M : Type 1} → statement M
+level_apart_spec =
+    tie.close (tie.spec owns-apart-requires returns rise-requires returns-2 tables-apart-requires returns-3)

@@ -16,26 +16,26 @@ use Rattle.check_walk.proofs.ApartLaws.{levels-apart-turn, levels-apart-end}
 use Rattle.check_links.proofs.apart.levels_apart.Statement.{statement}
 use Rattle.check_links.proofs.apart.levels_apart.Tie as tie
 
-abbrev invariant-loop : tie.invariant-loop
+abbrev invariant-loop : tie.invariant-loop-n
 invariant-loop area cards lists head ends marks₀ n₀ marks n =
     (1 ≤ n)
     × (n ≤ level_count)
     × (length marks ≡ length cards)
     × (levels_apart 3 1 cards lists head (zeros (length cards)) ≡ levels_apart (level_count - n) n cards lists head marks)
 
-abbrev decreases-loop : tie.decreases-loop
+abbrev decreases-loop : tie.decreases-loop-n
 decreases-loop area cards lists head ends marks₀ n₀ marks n = level_count - n
 
 wipe-requires : tie.Need-wipe-requires invariant-loop decreases-loop
 wipe-requires c κs = search rules
 
-loop-holds : tie.Need-loop-init invariant-loop decreases-loop
+loop-holds : tie.Need-loop-n-init invariant-loop decreases-loop
 loop-holds c =
-    let w = c.before.before in
-    let s = w.before.before.before.before.before.before in (
+    let w = c in
+    let s = w in (
       omega arith,
       omega arith,
-      c.before.marks.given ∙ s.requires.1,
+      c.marks-1.given ∙ s.requires.1,
       rw (w.wipe.ensures, s.requires.1),
     )
 
@@ -43,115 +43,96 @@ length-requires : tie.Need-length-requires invariant-loop decreases-loop
 length-requires c κs = search rules
 
 -- Where the function began.
-abbrev start : tie.In-loop invariant-loop decreases-loop → tie.Start invariant-loop decreases-loop
+abbrev start : tie.In-loop-n invariant-loop decreases-loop → tie.Start invariant-loop decreases-loop
 start c = c.before.before.before.before.before.before.before.before.before.before
 
-items-requires : tie.Need-items-requires invariant-loop decreases-loop
+items-requires : tie.Need-items-items-requires invariant-loop decreases-loop
 items-requires c κs =
-    let f = (start c.before).pre.0 in
-    (f.long, (rw c.length.ensures (f.fits c.before.before.loop.n (omega arith)), omega arith))
+    let f = (start c.before).requires.0 in
+    (f.long, (rw c.length.ensures (f.fits c.loop-n.n (omega arith)), omega arith))
 
 -- The items at hand are those of level n, and can be read.
-here : (c : tie.After-items invariant-loop decreases-loop) → let a = (start c.before.before).args in
-    c.items.result.now ≡ items_in (length a.cards.now) a.lists.now a.head.now c.before.before.before.loop.n
+here : (c : tie.After-items-items invariant-loop decreases-loop) → let a = (start c.before.before).args in
+    c.items-items.result.now ≡ items_in (length a.cards.now) a.lists.now a.head.now c.loop-n.n
 here c =
     let a = (start c.before.before).args in
-    c.items.ensures ∙ ap (λ k. take k (part_in (length a.cards.now) a.lists.now c.before.before.before.loop.n)) c.before.length.ensures
+    c.items-items.ensures ∙ ap (λ k. take k (part_in (length a.cards.now) a.lists.now c.loop-n.n)) c.length.ensures
 
-readable : (c : tie.After-items invariant-loop decreases-loop) → let a = (start c.before.before).args in
-    Readable a.area.now a.cards.now a.ends.now c.items.result.now
+readable : (c : tie.After-items-items invariant-loop decreases-loop) → let a = (start c.before.before).args in
+    Readable a.area.now a.cards.now a.ends.now c.items-items.result.now
 readable c =
     let s = start c.before.before in
     subst (λ (items : List ℕ). Readable s.args.area.now s.args.cards.now s.args.ends.now items) (sym (here c))
-    (s.pre.0.reads c.before.before.before.loop.n (omega arith))
+    (s.requires.0.reads c.loop-n.n (omega arith))
 
-items-unmarked-requires : tie.Need-items-unmarked-requires invariant-loop decreases-loop
-items-unmarked-requires c κs = (readable c.before).names
+items-unmarked-requires : tie.Need-items_unmarked-requires invariant-loop decreases-loop
+items-unmarked-requires c κs = (readable c).names
 
 -- What is left is this level, and those behind it.
-turned : (c : tie.After-items invariant-loop decreases-loop)
+turned : (c : tie.After-items-items invariant-loop decreases-loop)
     → let a = (start c.before.before).args in
-    let l = c.before.before.before.loop in
-    let ls = links_over a.cards.now c.items.result.now in
+    let l = c.loop-n in
+    let ls = links_over a.cards.now c.items-items.result.now in
     levels_apart 3 1 a.cards.now a.lists.now a.head.now (zeros (length a.cards.now))
     ≡ (all (unmarked l.marks) ls
     && (pairs apart_in ls && levels_apart (level_count - (l.n + 1)) (l.n + 1) a.cards.now a.lists.now a.head.now (links_marked l.marks ls)))
 turned c =
     let a = (start c.before.before).args in
-    let l = c.before.before.before.loop in
+    let l = c.loop-n in
     l.invariant.3 ∙ levels-apart-turn level_count l.n a.cards.now a.lists.now a.head.now l.marks (omega arith) ∙ rw (here c)
 
-same_length : tie.Need-same-length invariant-loop decreases-loop
+same_length : tie.Need-shape_of-marks-then-not-items_unmarked invariant-loop decreases-loop
 same_length c =
-    let d = c.before.before.before.before.before in
-    d.before.loop.invariant.2 ∙ sym (start d).requires.1
+    let d = c in
+    d.loop-n.invariant.2 ∙ sym (start d.before.before.before.before).requires.1
 
-returns : tie.Need-returns invariant-loop decreases-loop
-returns c = sym (turned c.before.before.before ∙ rw (sym c.before.items-unmarked.ensures ∙ not-true _ c.if1.true))
+returns : tie.Need-returns-then-not-items_unmarked invariant-loop decreases-loop
+returns c = sym (turned c.before.before ∙ rw (sym c.items_unmarked.ensures ∙ c.if-not-items_unmarked.true))
 
-level-apart-requires : tie.Need-level-apart-requires invariant-loop decreases-loop
-level-apart-requires c κs = readable c.before.before.before
+level-apart-requires : tie.Need-level_apart-requires invariant-loop decreases-loop
+level-apart-requires c κs = readable c.before.before
 
-same-length-2 : tie.Need-same-length-2 invariant-loop decreases-loop
+same-length-2 : tie.Need-shape_of-marks-then-not-level_apart invariant-loop decreases-loop
 same-length-2 c =
-    let d = c.before.before.before.before.before.before.before in
-    d.before.loop.invariant.2 ∙ sym (start d).requires.1
+    let d = c in
+    d.loop-n.invariant.2 ∙ sym (start d.before.before.before.before.before.before).requires.1
 
-returns-2 : tie.Need-returns-2 invariant-loop decreases-loop
+returns-2 : tie.Need-returns-then-not-level_apart invariant-loop decreases-loop
 returns-2 c =
-    let u = c.before.before in
-    sym (turned u.before.before.before
-    ∙ rw (sym u.before.items-unmarked.ensures ∙ not-false _ u.if1.false, sym c.before.level-apart.ensures ∙ not-true _ c.if2.true))
+    let u = c in
+    sym (turned u.before.before.before.before
+    ∙ rw (sym u.items_unmarked.ensures ∙ u.if-not-items_unmarked.false, sym c.level_apart.ensures ∙ c.if-not-level_apart.true))
 
-mark-items-requires : tie.Need-mark-items-requires invariant-loop decreases-loop
-mark-items-requires c κs = (readable c.before.before.before.before.before.before).names
+mark-items-requires : tie.Need-mark_items-requires invariant-loop decreases-loop
+mark-items-requires c κs = (readable c.before.before.before.before.before).names
 
-add-n : tie.Need-overflow-add-n invariant-loop decreases-loop
+add-n : tie.Need-overflow_add-n invariant-loop decreases-loop
 add-n c = omega arith
 
-loop-less : tie.Need-loop-smaller invariant-loop decreases-loop
+loop-less : tie.Need-loop-n-smaller invariant-loop decreases-loop
 loop-less c = omega arith
 
-loop-again : tie.Need-loop-preserved invariant-loop decreases-loop
+loop-again : tie.Need-loop-n-preserved invariant-loop decreases-loop
 loop-again c =
-    let m = c.before.before in
-    let k = m.before.before in
-    let u = k.before.before in
-    let i = u.before.before.before in (
+    let m = c in
+    let k = m in
+    let u = k in
+    let i = u in (
       omega arith,
       omega arith,
-      c.before.marks2.given ∙ i.before.before.before.loop.invariant.2,
-      turned i ∙ rw (sym u.before.items-unmarked.ensures ∙ not-false _ u.if1.false, sym k.before.level-apart.ensures ∙ not-false _ k.if2.false, ← m.mark-items.ensures),
+      c.marks-in-loop-n-1.given ∙ i.loop-n.invariant.2,
+      turned i.before.before.before.before.before.before.before.before ∙ rw (sym u.items_unmarked.ensures ∙ u.if-not-items_unmarked.false, sym k.level_apart.ensures ∙ k.if-not-level_apart.false, ← m.mark_items.ensures),
     )
 
-same-length-3 : tie.Need-same-length-3 invariant-loop decreases-loop
-same-length-3 c = c.before.loop.invariant.2 ∙ sym c.before.before.before.before.before.before.before.before.before.before.requires.1
+same-length-3 : tie.Need-shape_of-marks invariant-loop decreases-loop
+same-length-3 c = c.loop-n.invariant.2 ∙ sym c.requires.1
 
-returns-3 : tie.Need-returns-3 invariant-loop decreases-loop
+returns-3 : tie.Need-returns invariant-loop decreases-loop
 returns-3 c =
-    let l = c.before.loop in
-    let a = c.before.before.before.before.before.before.before.before.before.before.args in
+    let l = c.loop-n in
+    let a = c.args in
     sym (l.invariant.3 ∙ levels-apart-end level_count l.n a.cards.now a.lists.now a.head.now l.marks (omega arith))
 
-pub levels-apart-spec : {M : Type 1} → statement M
-levels-apart-spec =
-    tie.close
-    (tie.spec
-    invariant-loop
-    decreases-loop
-    wipe-requires
-    loop-holds
-    length-requires
-    items-requires
-    items-unmarked-requires
-    same_length
-    returns
-    level-apart-requires
-    same-length-2
-    returns-2
-    mark-items-requires
-    add-n
-    loop-less
-    loop-again
-    same-length-3
-    returns-3)
+pub levels_apart_spec : {M : Type 1} → statement M
+levels_apart_spec =
+    tie.close (tie.spec invariant-loop decreases-loop wipe-requires loop-holds length-requires items-requires items-unmarked-requires same_length returns level-apart-requires same-length-2 returns-2 mark-items-requires add-n loop-less loop-again same-length-3 returns-3)

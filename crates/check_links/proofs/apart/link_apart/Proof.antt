@@ -13,55 +13,43 @@ use Rattle.book.proofs.Every.{all_done}
 use Rattle.check_links.proofs.apart.link_apart.Statement.{statement}
 use Rattle.check_links.proofs.apart.link_apart.Tie as tie
 
-abbrev invariant-loop : tie.invariant-loop
+abbrev invariant-loop : tie.invariant-loop-j
 invariant-loop g row from n j₀ j = all (apart_in (the_link g)) (drop from (links_in row)) ≡ all (apart_in (the_link g)) (drop j (links_in row))
 
-abbrev decreases-loop : tie.decreases-loop
+abbrev decreases-loop : tie.decreases-loop-j
 decreases-loop g row from n j₀ j = n - j
 
-links-held-requires : tie.Need-links-held-requires invariant-loop decreases-loop
+links-held-requires : tie.Need-links_held-n-requires invariant-loop decreases-loop
 links-held-requires c κs = search rules
 
-loop-holds : tie.Need-loop-init invariant-loop decreases-loop
+loop-holds : tie.Need-loop-j-init invariant-loop decreases-loop
 loop-holds c = refl
 
-link-at-requires : tie.Need-link-at-requires invariant-loop decreases-loop
-link-at-requires c κs = omega (arith, few c.before.before.before.args.row.now, c.before.before.links-held.ensures)
+link-at-requires : tie.Need-link_at-requires invariant-loop decreases-loop
+link-at-requires c κs = omega (arith, few c.args.row.now, c.links_held-n.ensures)
 
-links-apart-requires : tie.Need-links-apart-requires invariant-loop decreases-loop
+links-apart-requires : tie.Need-links_apart-requires invariant-loop decreases-loop
 links-apart-requires c κs = search rules
 
-returns : tie.Need-returns invariant-loop decreases-loop
+returns : tie.Need-returns-then-not-links_apart invariant-loop decreases-loop
 returns c =
-    links-fails c.before.before.before.before.before.before.args.row.now (apart_in (the_link c.before.before.before.before.before.before.args.g)) c.before.before.before.before.loop.j (omega (arith, c.before.before.before.before.before.links-held.ensures)) c.before.before.before.before.loop.invariant
-    (ap (apart_in (the_link c.before.before.before.before.before.before.args.g)) (sym c.before.before.link-at.ensures) ∙ sym c.before.links-apart.ensures ∙ not-true _ c.if1.true)
+    links-fails c.args.row.now (apart_in (the_link c.args.g)) c.loop-j.j (omega (arith, c.links_held-n.ensures)) c.loop-j.invariant
+    (ap (apart_in (the_link c.args.g)) (sym c.link_at.ensures) ∙ sym c.links_apart.ensures ∙ c.if-not-links_apart.true)
 
-add-j : tie.Need-overflow-add-j invariant-loop decreases-loop
+add-j : tie.Need-overflow_add-j invariant-loop decreases-loop
 add-j c = omega arith
 
-loop-less : tie.Need-loop-smaller invariant-loop decreases-loop
+loop-less : tie.Need-loop-j-smaller invariant-loop decreases-loop
 loop-less c = omega arith
 
-loop-again : tie.Need-loop-preserved invariant-loop decreases-loop
+loop-again : tie.Need-loop-j-preserved invariant-loop decreases-loop
 loop-again c =
-    links-passes c.before.before.before.before.before.before.args.row.now (apart_in (the_link c.before.before.before.before.before.before.args.g)) c.before.before.before.before.loop.j (omega (arith, c.before.before.before.before.before.links-held.ensures)) c.before.before.before.before.loop.invariant
-    (ap (apart_in (the_link c.before.before.before.before.before.before.args.g)) (sym c.before.before.link-at.ensures) ∙ sym c.before.links-apart.ensures ∙ not-false _ c.if1.false)
+    links-passes c.args.row.now (apart_in (the_link c.args.g)) c.loop-j.j (omega (arith, c.links_held-n.ensures)) c.loop-j.invariant
+    (ap (apart_in (the_link c.args.g)) (sym c.link_at.ensures) ∙ sym c.links_apart.ensures ∙ c.if-not-links_apart.false)
 
-returns-2 : tie.Need-returns-2 invariant-loop decreases-loop
-returns-2 c = all_done (apart_in (the_link c.before.before.before.args.g)) (links_in c.before.before.before.args.row.now) c.before.loop.j (omega (arith, c.before.before.links-held.ensures)) c.before.loop.invariant
+returns-2 : tie.Need-returns invariant-loop decreases-loop
+returns-2 c = all_done (apart_in (the_link c.args.g)) (links_in c.args.row.now) c.loop-j.j (omega (arith, c.links_held-n.ensures)) c.loop-j.invariant
 
-pub link-apart-spec : {M : Type 1} → statement M
-link-apart-spec =
-    tie.close
-    (tie.spec
-    invariant-loop
-    decreases-loop
-    links-held-requires
-    loop-holds
-    link-at-requires
-    links-apart-requires
-    returns
-    add-j
-    loop-less
-    loop-again
-    returns-2)
+pub link_apart_spec : {M : Type 1} → statement M
+link_apart_spec =
+    tie.close (tie.spec invariant-loop decreases-loop links-held-requires loop-holds link-at-requires links-apart-requires returns add-j loop-less loop-again returns-2)

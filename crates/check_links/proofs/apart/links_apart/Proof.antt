@@ -12,7 +12,8 @@ below-requires-2 c κs = search rules
 
 returns : tie.Need-returns
 unfolding apart_in
-returns c = rw (c.before.below.ensures, c.below2.ensures)
+returns c = rw (c.below.ensures, c.below-2.ensures)
 
-pub links-apart-spec : {M : Type 1} → statement M
-links-apart-spec = tie.close (tie.spec below-requires below-requires-2 returns)
+pub links_apart_spec : {M : Type 1} → statement M
+links_apart_spec =
+    tie.close (tie.spec below-requires below-requires-2 returns)

@@ -10,50 +10,42 @@ use Rattle.check_places.proofs.rule_b.kept.Tie as tie
 wipe-requires : tie.Need-wipe-requires
 wipe-requires c κs = search rules
 
-tally-all-requires : tie.Need-tally-all-requires
+tally-all-requires : tie.Need-tally_all-requires
 tally-all-requires c κs =
-    let s = c.before.before.before.before.before.before.before in
-    (omega (arith, c.before.before.counts.given, s.requires.0), s.requires.1)
+    let s = c in
+    (omega (arith, c.counts-1.given, s.requires.0), s.requires.1)
 
-places-good-requires : tie.Need-places-good-requires
+places-good-requires : tie.Need-places_good-requires
 places-good-requires c κs =
-    let k = c.before.before.before in
-    let w = k.before.before.before.before in
-    omega (arith, k.counts2.given, w.counts.given, w.before.before.before.before.before.requires.0)
+    let k = c in
+    let w = k in
+    omega (arith, k.counts-2-1.given, w.counts-1.given, w.requires.0)
 
-same_length : tie.Need-same-length
+same_length : tie.Need-shape_of-counts-then-tally_all
 same_length c =
-    let k = c.before.before.before.before in
-    k.counts2.given ∙ k.before.before.before.before.counts.given
+    let k = c in
+    k.counts-2-1.given ∙ k.counts-1.given
 
-returns : tie.Need-returns
+returns : tie.Need-returns-then-tally_all
 unfolding walk_b
 returns c =
-    let i = c.before.before in
-    let t = i.before.before.before in
-    let w = t.before.before.before.before in
-    let s = w.before.before.before.before in
-    let good = sym t.tally-all.ensures.0 ∙ i.if1.true in
+    let i = c in
+    let t = i in
+    let w = t in
+    let s = w in
+    let good = sym t.tally_all.ensures.0 ∙ i.if-tally_all.true in
     let blank = w.wipe.ensures ∙ ap zeros s.requires.0 in
-    rw (good, ← blank, ← t.tally-all.ensures.1 i.if1.true) c.places-good.ensures
+    rw (good, ← blank, ← t.tally_all.ensures.1 i.if-tally_all.true) c.places_good.ensures
 
-same-length-2 : tie.Need-same-length-2
+same-length-2 : tie.Need-shape_of-counts-else-tally_all
 same-length-2 c =
-    let k = c.before.before in
-    k.counts2.given ∙ k.before.before.before.before.counts.given
+    let k = c in
+    k.counts-2-1.given ∙ k.counts-1.given
 
-returns-2 : tie.Need-returns-2
+returns-2 : tie.Need-returns-else-tally_all
 unfolding walk_b
-returns-2 c = sym (rw (sym c.before.before.before.tally-all.ensures.0 ∙ c.if1.false))
+returns-2 c = sym (rw (sym c.tally_all.ensures.0 ∙ c.if-tally_all.false))
 
-pub kept-spec : {M : Type 1} → statement M
-kept-spec =
-    tie.close
-    (tie.spec
-    wipe-requires
-    tally-all-requires
-    places-good-requires
-    same_length
-    returns
-    same-length-2
-    returns-2)
+pub kept_spec : {M : Type 1} → statement M
+kept_spec =
+    tie.close (tie.spec wipe-requires tally-all-requires places-good-requires same_length returns same-length-2 returns-2)

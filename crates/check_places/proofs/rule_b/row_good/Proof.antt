@@ -4,15 +4,16 @@ use Rattle.ldc.specs.Lent.{row_good}
 use Rattle.check_places.proofs.rule_b.row_good.Statement.{statement}
 use Rattle.check_places.proofs.rule_b.row_good.Tie as tie
 
-state-requires : tie.Need-state-requires
+state-requires : tie.Need-state-s-requires
 state-requires c κs = search rules
 
-link-count-requires : tie.Need-link-count-requires
+link-count-requires : tie.Need-link_count-requires
 link-count-requires c κs = search rules
 
 returns : tie.Need-returns
 unfolding row_good
-returns c = rw (c.before.state.ensures, c.link-count.ensures)
+returns c = rw (c.state-s.ensures, c.link_count.ensures)
 
-pub row-good-spec : {M : Type 1} → statement M
-row-good-spec = tie.close (tie.spec state-requires link-count-requires returns)
+pub row_good_spec : {M : Type 1} → statement M
+row_good_spec =
+    tie.close (tie.spec state-requires link-count-requires returns)

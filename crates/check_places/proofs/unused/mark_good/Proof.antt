@@ -8,5 +8,6 @@ returns : tie.Need-returns
 unfolding mark_good
 returns c = refl
 
-pub mark-good-spec : {M : Type 1} → statement M
-mark-good-spec = tie.close (tie.spec returns)
+pub mark_good_spec : {M : Type 1} → statement M
+mark_good_spec =
+    tie.close (tie.spec returns)

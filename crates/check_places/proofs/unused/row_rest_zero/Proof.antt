@@ -14,53 +14,45 @@ use Rattle.check_places.proofs.FoundLaws.{rest-free, rest-links}
 use Rattle.check_places.proofs.unused.row_rest_zero.Statement.{statement}
 use Rattle.check_places.proofs.unused.row_rest_zero.Tie as tie
 
-is-free-requires : tie.Need-is-free-requires
+is-free-requires : tie.Need-is_free-requires
 is-free-requires c κs = search rules
 
-words-zero-requires : tie.Need-words-zero-requires
+words-zero-requires : tie.Need-words_zero-requires
 words-zero-requires c κs = search rules
 
 -- What was tested: a free place whose summary is not zero.
-tested : (c : tie.After-words-zero) → let row = c.before.before.before.args.row.now in
-    (c.before.is_free.result && not c.words-zero.result) ≡ (is_free (card_of row) && not (all_zero (summary_in row)))
-tested c = rw (c.before.is_free.ensures, c.words-zero.ensures)
+tested : (c : tie.After-words_zero) → let row = c.args.row.now in
+    (c.is_free.result && not c.words_zero.result) ≡ (is_free (card_of row) && not (all_zero (summary_in row)))
+tested c = rw (c.is_free.ensures, c.words_zero.ensures)
 
-returns : tie.Need-returns
+returns : tie.Need-returns-then-is_free-words_zero
 returns c =
-    let w = c.before in
-    let row = w.before.before.before.args.row.now in
-    let both = and_parts (is_free (card_of row)) (not (all_zero (summary_in row))) (sym (tested w) ∙ c.if1.true) in
+    let w = c in
+    let row = w.args.row.now in
+    let both = and_parts (is_free (card_of row)) (not (all_zero (summary_in row))) (sym (tested w.before) ∙ c.if-is_free-words_zero.true) in
     rest-free row both.0 (not-true (all_zero (summary_in row)) both.1)
 
-slice-aggregate-links-rest-zero : tie.Need-slice-aggregate-links-rest-zero
+slice-aggregate-links-rest-zero : tie.Need-slice_bounds-links_rest_zero-end
 slice-aggregate-links-rest-zero c =
-    let w = c.before.before.before.before in
-    sym (length-take-le summary_start w.before.args.row.now (omega (arith, w.words.given.0)))
+    let w = c in
+    sym (length-take-le summary_start w.args.row.now (omega (arith, w.words-1.given)))
 
-link-count-requires : tie.Need-link-count-requires
+link-count-requires : tie.Need-link_count-requires
 link-count-requires c κs = search rules
 
-links-rest-zero-requires : tie.Need-links-rest-zero-requires
+links-rest-zero-requires : tie.Need-links_rest_zero-requires
 links-rest-zero-requires c κs =
-    let s = c.before.before.before.before.before.before in
-    length-take-le summary_start s.args.row.now (omega (arith, c.before.before.before.before.before.words.given.0))
+    let s = c in
+    length-take-le summary_start s.args.row.now (omega (arith, c.words-1.given))
 
-returns-2 : tie.Need-returns-2
+returns-2 : tie.Need-returns
 returns-2 c =
-    let w = c.before.before.before.before in
-    let row = w.before.before.before.args.row.now in
-    c.links-rest-zero.ensures
-    ∙ ap (λ n. all_zero (drop (link_start n) (take summary_start row))) c.before.link-count.ensures
-    ∙ rest-links row (sym (tested w) ∙ c.before.before.before.if1.false)
+    let w = c in
+    let row = w.args.row.now in
+    c.links_rest_zero.ensures
+    ∙ ap (λ n. all_zero (drop (link_start n) (take summary_start row))) c.link_count.ensures
+    ∙ rest-links row (sym (tested w.before.before.before) ∙ c.if-is_free-words_zero.false)
 
-pub row-rest-zero-spec : {M : Type 1} → statement M
-row-rest-zero-spec =
-    tie.close
-    (tie.spec
-    is-free-requires
-    words-zero-requires
-    returns
-    slice-aggregate-links-rest-zero
-    link-count-requires
-    links-rest-zero-requires
-    returns-2)
+pub row_rest_zero_spec : {M : Type 1} → statement M
+row_rest_zero_spec =
+    tie.close (tie.spec is-free-requires words-zero-requires returns slice-aggregate-links-rest-zero link-count-requires links-rest-zero-requires returns-2)

@@ -17,94 +17,77 @@ use Rattle.check_quick.specs.Rest.{row_kept}
 use Rattle.check_quick.proofs.rows.rows_kept.Statement.{statement}
 use Rattle.check_quick.proofs.rows.rows_kept.Tie as tie
 
-abbrev invariant-loop : tie.invariant-loop
+abbrev invariant-loop : tie.invariant-loop-p
 invariant-loop area cards threshold marks₀ p₀ marks p =
     (length marks ≡ length marks₀)
     × (all (row_kept area cards threshold) cards ≡ all (row_kept area cards threshold) (drop p cards))
     × (links_marked marks₀ (flat (map links_in cards)) ≡ links_marked marks (flat (map links_in (drop p cards))))
 
-abbrev decreases-loop : tie.decreases-loop
+abbrev decreases-loop : tie.decreases-loop-p
 decreases-loop area cards threshold marks₀ p₀ marks p = length cards - p
 
-loop-holds : tie.Need-loop-init invariant-loop decreases-loop
+loop-holds : tie.Need-loop-p-init invariant-loop decreases-loop
 loop-holds c = (refl, refl, refl)
 
-mul-row-kept : tie.Need-overflow-mul-row-kept invariant-loop decreases-loop
+mul-row-kept : tie.Need-offset_bounds-cards-p invariant-loop decreases-loop
 mul-row-kept c = search rules
 
-shared-slice-element-row-kept : tie.Need-shared-slice-element-row-kept invariant-loop decreases-loop
+shared-slice-element-row-kept : tie.Need-bounds-cards-p invariant-loop decreases-loop
 shared-slice-element-row-kept c = omega arith
 
-row-kept-requires : tie.Need-row-kept-requires invariant-loop decreases-loop
+row-kept-requires : tie.Need-row_kept-requires invariant-loop decreases-loop
 row-kept-requires c κs = search rules
 
-same_length : tie.Need-same-length invariant-loop decreases-loop
-same_length c = c.before.before.before.before.loop.invariant.0
+same_length : tie.Need-shape_of-marks-then-not-row_kept invariant-loop decreases-loop
+same_length c = c.loop-p.invariant.0
 
-returns : tie.Need-returns invariant-loop decreases-loop
+returns : tie.Need-returns-then-not-row_kept invariant-loop decreases-loop
 returns c =
-    let l = c.before.before.before.before.loop in
-    let a = c.before.before.before.before.before.before.before.args in (
+    let l = c.loop-p in
+    let a = c.args in (
       all-fails (row_kept a.area.now a.cards.now a.threshold) a.cards.now l.p [] (omega arith) l.invariant.1
-          (sym c.before.row_kept.ensures ∙ not-true _ c.if1.true),
+          (sym c.row_kept.ensures ∙ c.if-not-row_kept.true),
       λ e. absurd (false≢true e),
     )
 
-mul-mark-row : tie.Need-overflow-mul-mark-row invariant-loop decreases-loop
+mul-mark-row : tie.Need-offset_bounds-cards-p-in-loop-p invariant-loop decreases-loop
 mul-mark-row c = search rules
 
-shared-slice-element-mark-row : tie.Need-shared-slice-element-mark-row invariant-loop decreases-loop
+shared-slice-element-mark-row : tie.Need-bounds-cards-p-in-loop-p invariant-loop decreases-loop
 shared-slice-element-mark-row c = omega arith
 
-mark-row-requires : tie.Need-mark-row-requires invariant-loop decreases-loop
+mark-row-requires : tie.Need-mark_row-requires invariant-loop decreases-loop
 mark-row-requires c κs = search rules
 
-add-p : tie.Need-overflow-add-p invariant-loop decreases-loop
+add-p : tie.Need-overflow_add-p invariant-loop decreases-loop
 add-p c = omega arith
 
-loop-less : tie.Need-loop-smaller invariant-loop decreases-loop
+loop-less : tie.Need-loop-p-smaller invariant-loop decreases-loop
 loop-less c = omega arith
 
-loop-again : tie.Need-loop-preserved invariant-loop decreases-loop
+loop-again : tie.Need-loop-p-preserved invariant-loop decreases-loop
 loop-again c =
-    let m = c.before.before in
-    let k = m.before.before.before in
-    let l = k.before.before.before.before.loop in
-    let a = k.before.before.before.before.before.before.before.args in (
-      c.before.marks.given ∙ l.invariant.0,
+    let m = c in
+    let k = m in
+    let l = k.loop-p in
+    let a = k.args in (
+      c.marks-1.given ∙ l.invariant.0,
       all-passes (row_kept a.area.now a.cards.now a.threshold) a.cards.now l.p [] (omega arith) l.invariant.1
-          (sym k.before.row_kept.ensures ∙ not-false _ k.if1.false),
-      l.invariant.2 ∙ rows-turn l.marks a.cards.now l.p (omega arith) ∙ rw m.mark-row.ensures,
+          (sym k.row_kept.ensures ∙ k.if-not-row_kept.false),
+      l.invariant.2 ∙ rows-turn l.marks a.cards.now l.p (omega arith) ∙ rw m.mark_row.ensures,
     )
 
-same-length-2 : tie.Need-same-length-2 invariant-loop decreases-loop
-same-length-2 c = c.before.loop.invariant.0
+same-length-2 : tie.Need-shape_of-marks invariant-loop decreases-loop
+same-length-2 c = c.loop-p.invariant.0
 
-returns-2 : tie.Need-returns-2 invariant-loop decreases-loop
+returns-2 : tie.Need-returns invariant-loop decreases-loop
 returns-2 c =
-    let l = c.before.loop in
-    let a = c.before.before.before.before.args in (
+    let l = c.loop-p in
+    let a = c.args in (
       all_done (row_kept a.area.now a.cards.now a.threshold) a.cards.now l.p (omega arith) l.invariant.1,
       λ _. sym (l.invariant.2 ∙ rows_end l.marks a.cards.now l.p (omega arith)),
     )
 
-pub rows-kept-spec : {M : Type 1} → statement M
-rows-kept-spec =
-    tie.close
-    (tie.spec
-    invariant-loop
-    decreases-loop
-    loop-holds
-    mul-row-kept
-    shared-slice-element-row-kept
-    row-kept-requires
-    same_length
-    returns
-    mul-mark-row
-    shared-slice-element-mark-row
-    mark-row-requires
-    add-p
-    loop-less
-    loop-again
-    same-length-2
-    returns-2)
+pub rows_kept_spec : {M : Type 1} → statement M
+rows_kept_spec =
+    tie.close (tie.spec invariant-loop decreases-loop loop-holds mul-row-kept shared-slice-element-row-kept row-kept-requires same_length returns mul-mark-row shared-slice-element-mark-row mark-row-requires add-p loop-less loop-again same-length-2 returns-2)

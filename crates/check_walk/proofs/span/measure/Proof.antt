@@ -14,82 +14,67 @@ use Rattle.check_walk.proofs.SpanLaws.{least-turn, greatest-turn, least-end, gre
 use Rattle.check_walk.proofs.span.measure.Statement.{statement}
 use Rattle.check_walk.proofs.span.measure.Tie as tie
 
-abbrev invariant-loop : tie.invariant-loop
+abbrev invariant-loop : tie.invariant-loop-j
 invariant-loop place row start₀ end₀ n j₀ start end j =
     (least_end (least_key (entries place)) (links_in row) ≡ least_end start.value (drop j (links_in row)))
     × (greatest_end (greatest_key (entries place)) (links_in row) ≡ greatest_end end.value (drop j (links_in row)))
 
-abbrev decreases-loop : tie.decreases-loop
+abbrev decreases-loop : tie.decreases-loop-j
 decreases-loop place row start₀ end₀ n j₀ start end j = n - j
 
-least-requires : tie.Need-least-requires invariant-loop decreases-loop
+least-requires : tie.Need-least-start-requires invariant-loop decreases-loop
 least-requires c κs = search rules
 
-links-held-requires : tie.Need-links-held-requires invariant-loop decreases-loop
+links-held-requires : tie.Need-links_held-n-requires invariant-loop decreases-loop
 links-held-requires c κs = search rules
 
-loop-holds : tie.Need-loop-init invariant-loop decreases-loop
-loop-holds c = (rw c.before.least.ensures, rw c.before.before.before.requires.1)
+loop-holds : tie.Need-loop-j-init invariant-loop decreases-loop
+loop-holds c = (rw c.least-start.ensures, rw c.requires.1)
 
-link-at-requires : tie.Need-link-at-requires invariant-loop decreases-loop
-link-at-requires c κs = omega (arith, few c.before.before.before.before.before.args.row.now, c.before.before.links-held.ensures)
+link-at-requires : tie.Need-link_at-l-requires invariant-loop decreases-loop
+link-at-requires c κs = omega (arith, few c.args.row.now, c.links_held-n.ensures)
 
 lesser-requires : tie.Need-lesser-requires invariant-loop decreases-loop
 lesser-requires c κs = search rules
 
-lesser-requires-2 : tie.Need-lesser-requires-2 invariant-loop decreases-loop
+lesser-requires-2 : tie.Need-lesser-start-requires invariant-loop decreases-loop
 lesser-requires-2 c κs = search rules
 
 greater-requires : tie.Need-greater-requires invariant-loop decreases-loop
 greater-requires c κs = search rules
 
-greater-requires-2 : tie.Need-greater-requires-2 invariant-loop decreases-loop
+greater-requires-2 : tie.Need-greater-end-requires invariant-loop decreases-loop
 greater-requires-2 c κs = search rules
 
-add-j : tie.Need-overflow-add-j invariant-loop decreases-loop
+add-j : tie.Need-overflow_add-j invariant-loop decreases-loop
 add-j c = omega arith
 
-loop-less : tie.Need-loop-smaller invariant-loop decreases-loop
+loop-less : tie.Need-loop-j-smaller invariant-loop decreases-loop
 loop-less c = omega arith
 
-loop-again : tie.Need-loop-preserved invariant-loop decreases-loop
+loop-again : tie.Need-loop-j-preserved invariant-loop decreases-loop
 loop-again c =
-    let row = c.before.before.before.before.before.before.before.before.before.before.before.before.args.row.now in
-    let l = c.before.before.before.before.before.before.before.before.loop in
+    let row = c.args.row.now in
+    let l = c.loop-j in
     let j = l.j in
-    let link = c.before.before.before.before.before.before.link-at in
+    let link = c.link_at-l in
     let start₀ = l.start.value in
     let end₀ = l.end.value in
     let low : link.result.low.value ≡ (link_at row j).low = ap (λ l. l.low) link.ensures in
     let high : link.result.high.value ≡ (link_at row j).high = ap (λ l. l.high) link.ensures in
-    let start : min start₀ (min (link_at row j).low (link_at row j).high) ≡ c.before.before.lesser2.result.value =
-    sym (c.before.before.lesser2.ensures ∙ ap (min start₀) (c.before.before.before.lesser.ensures ∙ rw (low, high))) in
-    let end : max end₀ (max (link_at row j).low (link_at row j).high) ≡ c.greater2.result.value =
-    sym (c.greater2.ensures ∙ ap (max end₀) (c.before.greater.ensures ∙ rw (low, high))) in
-    let h : j < length (links_in row) = omega (arith, c.before.before.before.before.before.before.before.before.before.links-held.ensures) in
+    let start : min start₀ (min (link_at row j).low (link_at row j).high) ≡ c.lesser-start.result.value =
+    sym (c.lesser-start.ensures ∙ ap (min start₀) (c.lesser.ensures ∙ rw (low, high))) in
+    let end : max end₀ (max (link_at row j).low (link_at row j).high) ≡ c.greater-end.result.value =
+    sym (c.greater-end.ensures ∙ ap (max end₀) (c.greater.ensures ∙ rw (low, high))) in
+    let h : j < length (links_in row) = omega (arith, c.links_held-n.ensures) in
     (l.invariant.0 ∙ least-turn start₀ row j h ∙ rw start, l.invariant.1 ∙ greatest-turn end₀ row j h ∙ rw end)
 
 returns : tie.Need-returns invariant-loop decreases-loop
 returns c = (
-  sym (c.before.loop.invariant.0 ∙ least-end c.before.loop.start.value c.before.before.before.before.before.args.row.now c.before.loop.j (omega (arith, c.before.before.links-held.ensures))),
-  sym (c.before.loop.invariant.1 ∙ greatest-end c.before.loop.end.value c.before.before.before.before.before.args.row.now c.before.loop.j (omega (arith, c.before.before.links-held.ensures))),
+  sym (c.loop-j.invariant.0 ∙ least-end c.loop-j.start.value c.args.row.now c.loop-j.j (omega (arith, c.links_held-n.ensures))),
+  sym (c.loop-j.invariant.1 ∙ greatest-end c.loop-j.end.value c.args.row.now c.loop-j.j (omega (arith, c.links_held-n.ensures))),
 )
 
-pub measure-spec : {M : Type 1} → statement M
-measure-spec =
-    tie.close
-    (tie.spec
-    invariant-loop
-    decreases-loop
-    least-requires
-    links-held-requires
-    loop-holds
-    link-at-requires
-    lesser-requires
-    lesser-requires-2
-    greater-requires
-    greater-requires-2
-    add-j
-    loop-less
-    loop-again
-    returns)
+pub measure_spec : {M : Type 1} → statement M
+measure_spec =
+    tie.close (tie.spec invariant-loop decreases-loop least-requires links-held-requires loop-holds link-at-requires lesser-requires lesser-requires-2 greater-requires greater-requires-2 add-j loop-less loop-again returns)

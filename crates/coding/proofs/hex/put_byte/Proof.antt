@@ -19,45 +19,35 @@ written o at b high low h l =
     let two : at + 2 ≡ suc (suc at) = omega arith in
     rw (one, two, h, l)
 
-slice-write-out : tie.Need-slice-write-out
+slice-write-out : tie.Need-bounds-out-at
 slice-write-out c = search rules
 
 digit-requires : tie.Need-digit-requires
 digit-requires c κs = search rules
 
-add-out : tie.Need-overflow-add-out
+add-out : tie.Need-overflow_add-out
 add-out c = search rules
 
-slice-write-out-2 : tie.Need-slice-write-out-2
+slice-write-out-2 : tie.Need-bounds-out-at-2
 slice-write-out-2 c = simp length-set (omega arith)
 
 digit-requires-2 : tie.Need-digit-requires-2
 digit-requires-2 c κs = search rules
 
-add-out-2 : tie.Need-overflow-add-out-2
+add-out-2 : tie.Need-overflow_add-out-2
 add-out-2 c = search rules
 
-slice-write-out-3 : tie.Need-slice-write-out-3
+slice-write-out-3 : tie.Need-bounds-out-at-3
 slice-write-out-3 c = simp length-set (omega arith)
 
-same_length : tie.Need-same-length
+same_length : tie.Need-shape_of-out
 same_length c = search rules
 
 returns : tie.Need-returns
 returns c =
-    let a = c.before.before.before.args in
-    written a.out.now a.at a.b _ _ c.before.digit.ensures c.digit2.ensures
+    let a = c.args in
+    written a.out.now a.at a.b _ _ c.digit.ensures c.digit-2.ensures
 
-pub put-byte-spec : {M : Type 1} → statement M
-put-byte-spec =
-    tie.close
-    (tie.spec
-    slice-write-out
-    digit-requires
-    add-out
-    slice-write-out-2
-    digit-requires-2
-    add-out-2
-    slice-write-out-3
-    same_length
-    returns)
+pub put_byte_spec : {M : Type 1} → statement M
+put_byte_spec =
+    tie.close (tie.spec slice-write-out digit-requires add-out slice-write-out-2 digit-requires-2 add-out-2 slice-write-out-3 same_length returns)

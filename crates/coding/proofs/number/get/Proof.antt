@@ -14,10 +14,10 @@ use Rattle.coding.proofs.NumberLaws.{number_at-below, get-turn}
 use Rattle.coding.proofs.number.get.Statement.{statement}
 use Rattle.coding.proofs.number.get.Tie as tie
 
-abbrev invariant-loop : tie.invariant-loop
+abbrev invariant-loop : tie.invariant-loop-left
 invariant-loop s at width left₀ n₀ left n = (left ≤ width) × (n ≡ number_at (width - left) s (at + left))
 
-abbrev decreases-loop : tie.decreases-loop
+abbrev decreases-loop : tie.decreases-loop-left
 decreases-loop s at width left₀ n₀ left n = left
 
 positive : {k left : ℕ} → k < left → 0 < left
@@ -65,18 +65,18 @@ module _ (s : List ℕ) (at width left n : ℕ) (t : Turn s at width left n) whe
     turned : n * 256 + d ≡ number_at (width - (left - 1)) s (at + (left - 1))
     turned = cc (get-turn s at width left t.some t.few, t.passed)
 
-turn : (c : tie.In-loop invariant-loop decreases-loop)
-    → let a = c.before.before.before.args in
-    Turn a.s.now a.at a.width c.before.loop.left c.before.loop.n
+turn : (c : tie.In-loop-left invariant-loop decreases-loop)
+    → let a = c.args in
+    Turn a.s.now a.at a.width c.loop-left.left c.loop-left.n
 turn c =
-    let b = c.before.before.before in
-    let l = c.before.loop in
+    let b = c in
+    let l = c.loop-left in
     record {
-      some = positive c.loop-test.true;
+      some = positive c.loop-left-test.true;
       few = l.invariant.0;
       narrow = b.requires.0;
       room = b.requires.1;
-      bytes = λ i. (c.before.before.shared-slice-known.given i).fits;
+      bytes = λ i. (c.shared_slice_known-1.given i).fits;
       passed = l.invariant.1;
     }
 
@@ -84,51 +84,38 @@ turn c =
 reached : (b : tie.Start invariant-loop decreases-loop) (i : ℕ) → i < length b.args.s.now → Fits w64 i
 reached b i h = omega arith
 
-loop-holds : tie.Need-loop-init invariant-loop decreases-loop
-loop-holds c = let a = c.before.args in (le_refl _, none a.s.now a.at a.width)
+loop-holds : tie.Need-loop-left-init invariant-loop decreases-loop
+loop-holds c = let a = c.args in (le_refl _, none a.s.now a.at a.width)
 
-sub-left : tie.Need-overflow-sub-left invariant-loop decreases-loop
-sub-left c = positive c.loop-test.true
+sub-left : tie.Need-overflow_sub-left invariant-loop decreases-loop
+sub-left c = positive c.loop-left-test.true
 
-mul-n : tie.Need-overflow-mul-n invariant-loop decreases-loop
+mul-n : tie.Need-overflow_mul-n invariant-loop decreases-loop
 mul-n c = scaled _ _ _ _ _ (turn c) _ (lit≤ tt)
 
-add_wide : tie.Need-overflow-add-wide invariant-loop decreases-loop
+add_wide : tie.Need-overflow_add-at invariant-loop decreases-loop
 add_wide c = reached c.before.before.before _ (inside _ _ _ _ _ (turn c))
 
-shared-slice-read-wide : tie.Need-shared-slice-read-wide invariant-loop decreases-loop
+shared-slice-read-wide : tie.Need-bounds-s-at invariant-loop decreases-loop
 shared-slice-read-wide c = inside _ _ _ _ _ (turn c.before)
 
 wide-requires : tie.Need-wide-requires invariant-loop decreases-loop
 wide-requires c κs = tt
 
-add-n : tie.Need-overflow-add-n invariant-loop decreases-loop
+add-n : tie.Need-overflow_add-n invariant-loop decreases-loop
 add-n c = summed _ _ _ _ _ (turn c.before.before) _ c.wide.ensures _ (lit≤ tt)
 
-loop-less : tie.Need-loop-smaller invariant-loop decreases-loop
+loop-less : tie.Need-loop-left-smaller invariant-loop decreases-loop
 loop-less c = fewer _ _ _ _ _ (turn c.before.before)
 
-loop-again : tie.Need-loop-preserved invariant-loop decreases-loop
+loop-again : tie.Need-loop-left-preserved invariant-loop decreases-loop
 loop-again c =
     let t = turn c.before.before in
     (within _ _ _ _ _ t, turned _ _ _ _ _ t _ c.wide.ensures)
 
 returns : tie.Need-returns invariant-loop decreases-loop
-returns c = all _ _ _ _ _ c.loop-test.false c.before.loop.invariant.1
+returns c = all _ _ _ _ _ c.loop-left-test.false c.loop-left.invariant.1
 
 pub get_spec : {M : Type 1} → statement M
 get_spec =
-    tie.close
-    (tie.spec
-    invariant-loop
-    decreases-loop
-    loop-holds
-    sub-left
-    mul-n
-    add_wide
-    shared-slice-read-wide
-    wide-requires
-    add-n
-    loop-less
-    loop-again
-    returns)
+    tie.close (tie.spec invariant-loop decreases-loop loop-holds sub-left mul-n add_wide shared-slice-read-wide wide-requires add-n loop-less loop-again returns)

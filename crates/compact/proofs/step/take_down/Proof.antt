@@ -14,39 +14,40 @@ use Rattle.compact.proofs.step.take_down.Statement.{statement}
 use Rattle.compact.proofs.step.take_down.Tie as tie
 
 -- With every memory table the pieces are ready for the step.
-ready : (c : tie.After-shared-slice-known)
-    → let a = c.before.args in
+ready : (c : tie.After-shared_slice_known-1)
+    → let a = c.args in
     (memory : List ℕ) → Backed (lent a.area.now a.cards.now a.lists.now (head_words a.head) memory)
     → Ready (lent a.area.now a.cards.now a.lists.now (head_words a.head) memory) a.n a.p
 ready c memory b =
-    let a = c.before.args in
+    let a = c.args in
     record {
       kept = b.kept;
-      shape = shape_of _ c.before.requires.work.wide refl b.long b.valued (λ i. omega (arith, c.shared-slice-known.given i));
-      chosen = chosen-beside a.area.now a.cards.now a.lists.now (head_words a.head) c.before.requires.work.memory memory a.n a.p c.before.requires.chosen;
+      shape = shape_of _ c.requires.work.wide refl b.long b.valued (λ i. omega (arith, c.shared_slice_known-1.given i));
+      chosen = chosen-beside a.area.now a.cards.now a.lists.now (head_words a.head) c.requires.work.memory memory a.n a.p c.requires.chosen;
     }
 
-go-down-requires : tie.Need-go-down-requires
+go-down-requires : tie.Need-go_down-went-requires
 go-down-requires c κs =
-    let k = c.before.before.before in
-    record { memory = k.before.requires.work.memory; ready = ready k k.before.requires.work.memory k.before.requires.work.backed }
+    let k = c in
+    record { memory = k.requires.work.memory; ready = ready k.before.before.before k.requires.work.memory k.requires.work.backed }
 
-cast-t13 : tie.Need-overflow-cast-t13
+cast-t13 : tie.Need-overflow_cast-result
 cast-t13 c = search rules
 
-same_length : tie.Need-same-length
+same_length : tie.Need-shape_of-cards
 same_length c = search rules
 
-same-length-2 : tie.Need-same-length-2
+same-length-2 : tie.Need-shape_of-lists
 same-length-2 c = search rules
 
 returns : tie.Need-returns
 returns c memory b =
-    let g = c.before.before.before.before in
-    let k = g.before.before.before.before in
-    let a = k.before.args in
-    let done = g.go-down.ensures memory (ready k memory b) in
+    let g = c in
+    let k = g in
+    let a = k.args in
+    let done = g.go_down-went.ensures memory (ready k.before.before.before.before.before.before.before.before memory b) in
     does-down (lent a.area.now a.cards.now a.lists.now (head_words a.head) memory) _ a.n a.p _ _ done.number done.left
 
-pub take-down-spec : {M : Type 1} → statement M
-take-down-spec = tie.close (tie.spec go-down-requires cast-t13 same_length same-length-2 returns)
+pub take_down_spec : {M : Type 1} → statement M
+take_down_spec =
+    tie.close (tie.spec go-down-requires cast-t13 same_length same-length-2 returns)

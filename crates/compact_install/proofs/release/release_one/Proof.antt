@@ -3,17 +3,18 @@ use borrow.Author.Rules.{rules}
 use Rattle.compact_install.proofs.release.release_one.Statement.{statement}
 use Rattle.compact_install.proofs.release.release_one.Tie as tie
 
-returns : tie.Need-returns
-returns c = rw c.if1.true
+returns : tie.Need-returns-then-held
+returns c = rw c.if-held.true
 
 free-requires : tie.Need-free-requires
 free-requires c κs = search rules
 
-same_length : tie.Need-same-length
+same_length : tie.Need-shape_of-cards
 same_length c = search rules
 
-returns-2 : tie.Need-returns-2
-returns-2 c = rw c.before.before.before.if1.false c.before.free.ensures
+returns-2 : tie.Need-returns
+returns-2 c = rw c.if-held.false c.free.ensures
 
-pub release-one-spec : {M : Type 1} → statement M
-release-one-spec = tie.close (tie.spec returns free-requires same_length returns-2)
+pub release_one_spec : {M : Type 1} → statement M
+release_one_spec =
+    tie.close (tie.spec returns free-requires same_length returns-2)

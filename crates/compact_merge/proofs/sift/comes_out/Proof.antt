@@ -9,29 +9,29 @@ use Rattle.compact_merge.proofs.Drops.{value_out, mark-out, entry_key}
 use Rattle.compact_merge.proofs.sift.comes_out.Statement.{statement}
 use Rattle.compact_merge.proofs.sift.comes_out.Tie as tie
 
-kind-at-requires : tie.Need-kind-at-requires
-kind-at-requires c κs = let s = c.before.before.requires.1.1 in omega (arith, s.low, s.room)
+kind-at-requires : tie.Need-kind_at-requires
+kind-at-requires c κs = let s = c.requires.1.1 in omega (arith, s.low, s.room)
 
-returns : tie.Need-returns
+returns : tie.Need-returns-then-kind_at-ne-DELETE_MARK
 returns c =
-    let a = c.before.before.before.before.args in
-    sym (value_out (store_in a.area.now a.cards.now a.lists.now (head_words a.head)) a.n a.area.now a.at (λ e. c.if1.true (c.before.kind_at.ensures ∙ e)))
+    let a = c.args in
+    sym (value_out (store_in a.area.now a.cards.now a.lists.now (head_words a.head)) a.n a.area.now a.at (λ e. c.if-kind_at-ne-DELETE_MARK.true (c.kind_at.ensures ∙ e)))
 
-key-at-requires : tie.Need-key-at-requires
-key-at-requires c κs = let s = c.before.before.before.before.requires.1.1 in omega (arith, s.low, s.room)
+key-at-requires : tie.Need-key_at-requires
+key-at-requires c κs = let s = c.requires.1.1 in omega (arith, s.low, s.room)
 
-drops-mark-requires : tie.Need-drops-mark-requires
-drops-mark-requires c κs = let p = c.before.before.before.before.before.requires in (p.0, p.1.0)
+drops-mark-requires : tie.Need-drops_mark-requires
+drops-mark-requires c κs = let p = c.requires in (p.0, p.1.0)
 
-returns-2 : tie.Need-returns-2
+returns-2 : tie.Need-returns
 returns-2 c =
-    let k = c.before.before.before in
-    let a = k.before.before.before.args in
+    let k = c in
+    let a = k.args in
     let s = store_in a.area.now a.cards.now a.lists.now (head_words a.head) in
     let e = entry_at a.area.now a.at in
-    ap not (c.drops-mark.ensures e (entry_key s a.n a.area.now a.at ∙ sym c.before.key-at.ensures))
-    ∙ sym (mark-out s a.n a.area.now a.at (sym k.kind_at.ensures ∙ c.before.before.if1.false))
+    ap not (c.drops_mark.ensures e (entry_key s a.n a.area.now a.at ∙ sym c.key_at.ensures))
+    ∙ sym (mark-out s a.n a.area.now a.at (sym k.kind_at.ensures ∙ c.if-kind_at-ne-DELETE_MARK.false))
 
-pub comes-out-spec : {M : Type 1} → statement M
-comes-out-spec =
+pub comes_out_spec : {M : Type 1} → statement M
+comes_out_spec =
     tie.close (tie.spec kind-at-requires returns key-at-requires drops-mark-requires returns-2)

@@ -4,14 +4,15 @@ use borrow.Author.Rules.{rules}
 use Rattle.compact_merge.proofs.sift.one_out.Statement.{statement}
 use Rattle.compact_merge.proofs.sift.one_out.Tie as tie
 
-comes-out-requires : tie.Need-comes-out-requires
+comes-out-requires : tie.Need-comes_out-requires
 comes-out-requires c κs = search rules
 
-returns : tie.Need-returns
-returns c = sym (rw (← c.before.comes-out.ensures, c.if1.true))
+returns : tie.Need-returns-then-comes_out
+returns c = sym (rw (← c.comes_out.ensures, c.if-comes_out.true))
 
-returns-2 : tie.Need-returns-2
-returns-2 c = sym (rw (← c.before.comes-out.ensures, c.if1.false))
+returns-2 : tie.Need-returns-else-comes_out
+returns-2 c = sym (rw (← c.comes_out.ensures, c.if-comes_out.false))
 
-pub one-out-spec : {M : Type 1} → statement M
-one-out-spec = tie.close (tie.spec comes-out-requires returns returns-2)
+pub one_out_spec : {M : Type 1} → statement M
+one_out_spec =
+    tie.close (tie.spec comes-out-requires returns returns-2)

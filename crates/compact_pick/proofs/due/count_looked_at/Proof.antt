@@ -5,16 +5,17 @@ use Rattle.compact_pick.specs.Calm.{looked_at}
 use Rattle.compact_pick.proofs.due.count_looked_at.Statement.{statement}
 use Rattle.compact_pick.proofs.due.count_looked_at.Tie as tie
 
-returns : tie.Need-returns
+returns : tie.Need-returns-then-suspect-n
 unfolding looked_at
-returns c = rw c.if1.true
+returns c = rw c.if-suspect-n.true
 
-length-of-requires : tie.Need-length-of-requires
+length-of-requires : tie.Need-length_of-requires
 length-of-requires c κs = omega arith
 
-returns-2 : tie.Need-returns-2
+returns-2 : tie.Need-returns
 unfolding looked_at
-returns-2 c = c.length-of.ensures ∙ rw c.before.if1.false
+returns-2 c = c.length_of.ensures ∙ rw c.if-suspect-n.false
 
-pub count-looked-at-spec : {M : Type 1} → statement M
-count-looked-at-spec = tie.close (tie.spec returns length-of-requires returns-2)
+pub count_looked_at_spec : {M : Type 1} → statement M
+count_looked_at_spec =
+    tie.close (tie.spec returns length-of-requires returns-2)

@@ -7,10 +7,10 @@ use Rattle.ldc.specs.Tidy.{capacity}
 use Rattle.compact_pick.proofs.level.capacity.Statement.{statement}
 use Rattle.compact_pick.proofs.level.capacity.Tie as tie
 
-mul-result : tie.Need-overflow-mul-result
+mul-result : tie.Need-overflow_mul-result
 mul-result c = search rules
 
-shl-result : tie.Need-overflow-shl-result
+shl-result : tie.Need-overflow_shl-result
 shl-result c = search rules
 
 returns : tie.Need-returns
@@ -18,4 +18,5 @@ unfolding capacity
 returns c = shl_exact 2 (2 * c.args.n) 64 (omega arith) (omega (arith, c.requires))
 
 pub capacity_spec : {M : Type 1} → statement M
-capacity_spec = tie.close (tie.spec mul-result shl-result returns)
+capacity_spec =
+    tie.close (tie.spec mul-result shl-result returns)

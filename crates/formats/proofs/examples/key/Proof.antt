@@ -19,17 +19,18 @@ inside k e = cc
 of-requires : tie.Need-of-requires
 of-requires c κs = search rules
 
-enum-known-k : tie.Need-enum-known-k
+enum-known-k : tie.Need-enum_known-k
 enum-known-k c = search rules
 
-enum_told : tie.Need-enum-told
+enum_told : tie.Need-enum_told-1
 enum_told c = search rules
 
-returns : tie.Need-returns
+returns : tie.Need-returns-in_default
 returns c = cc built
 
-returns-2 : tie.Need-returns-2
-returns-2 c = inside c.before.k.given.0.0 (sym built ∙ sym c.before.before.before.of.ensures ∙ c.before.k.given.1)
+returns-2 : tie.Need-returns
+returns-2 c = inside c.in-Whole.k (sym built ∙ sym c.of.ensures ∙ c.in-Whole.is)
 
 pub key_spec : {M : Type 1} → statement M
-key_spec = tie.close (tie.spec of-requires enum-known-k enum_told returns returns-2)
+key_spec =
+    tie.close (tie.spec of-requires enum-known-k enum_told returns returns-2)

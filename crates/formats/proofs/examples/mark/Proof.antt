@@ -5,19 +5,17 @@ use Rattle.formats.proofs.Built.{mark-form, filled-mark}
 use Rattle.formats.proofs.examples.mark.Statement.{statement}
 use Rattle.formats.proofs.examples.mark.Tie as tie
 
-slice-aggregate-put-entry : tie.Need-slice-aggregate-put-entry
-slice-aggregate-put-entry c = search rules
+put-entry-requires : tie.Need-put_entry-requires
+put-entry-requires c κs = (mark-form, omega (arith, c.requires))
 
-put-entry-requires : tie.Need-put-entry-requires
-put-entry-requires c κs = (mark-form, omega (arith, c.before.before.before.requires))
-
-same_length : tie.Need-same-length
+same_length : tie.Need-shape_of-out
 same_length c = search rules
 
 returns : tie.Need-returns
 returns c =
-    let b = c.before.before.before.before.before.before in
-    filled-mark b.args.out.now _ b.requires c.before.before.put-entry.ensures
+    let b = c in
+    filled-mark b.args.out.now _ b.requires c.put_entry.ensures
 
 pub mark_spec : {M : Type 1} → statement M
-mark_spec = tie.close (tie.spec slice-aggregate-put-entry put-entry-requires same_length returns)
+mark_spec =
+    tie.close (tie.spec put-entry-requires same_length returns)

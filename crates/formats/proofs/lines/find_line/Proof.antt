@@ -4,57 +4,35 @@ use Rattle.formats.proofs.Built.{two_size, two-memory}
 use Rattle.formats.proofs.lines.find_line.Statement.{statement}
 use Rattle.formats.proofs.lines.find_line.Tie as tie
 
-slice-aggregate-write-all : tie.Need-slice-aggregate-write-all
-slice-aggregate-write-all c = search rules
-
-write-all-requires : tie.Need-write-all-requires
-write-all-requires c κs = search rules
-
-print-decimal-requires : tie.Need-print-decimal-requires
-print-decimal-requires c κs = search rules
-
 find-requires : tie.Need-find-requires
 find-requires c κs =
-    let b = c.before.before.before.before in
+    let b = c in
     (two_size _ b.requires, two-memory _ b.requires)
 
-enum-known-at : tie.Need-enum-known-at
+enum-known-at : tie.Need-enum_known-at
 enum-known-at c = search rules
 
-enum_told : tie.Need-enum-told
+enum_told : tie.Need-enum_told-1
 enum_told c = search rules
 
-slice-aggregate-write-all-2 : tie.Need-slice-aggregate-write-all-2
-slice-aggregate-write-all-2 c = search rules
-
-write-all-requires-2 : tie.Need-write-all-requires-2
-write-all-requires-2 c κs = search rules
-
-returns : tie.Need-returns
+returns : tie.Need-returns-in_default
 returns c = search rules
 
-slice-aggregate-number-line : tie.Need-slice-aggregate-number-line
-slice-aggregate-number-line c = search rules
-
-number-line-requires : tie.Need-number-line-requires
+number-line-requires : tie.Need-number_line-requires
 number-line-requires c κs = search rules
 
-returns-2 : tie.Need-returns-2
+returns-2 : tie.Need-returns
 returns-2 c = search rules
 
-pub find-line-spec : {M : Type 1} → statement M
-find-line-spec =
-    tie.close
-    (tie.spec
-    slice-aggregate-write-all
-    write-all-requires
-    print-decimal-requires
-    find-requires
-    enum-known-at
-    enum_told
-    slice-aggregate-write-all-2
-    write-all-requires-2
-    returns
-    slice-aggregate-number-line
-    number-line-requires
-    returns-2)
+put-requires : tie.Need-put-requires
+put-requires c = search rules
+
+put_number-requires : tie.Need-put_number-requires
+put_number-requires c = search rules
+
+put-requires-in_default : tie.Need-put-requires-in_default
+put-requires-in_default c = search rules
+
+pub find_line_spec : {M : Type 1} → statement M
+find_line_spec =
+    tie.close (tie.spec put-requires put_number-requires find-requires enum-known-at enum_told put-requires-in_default returns number-line-requires returns-2)

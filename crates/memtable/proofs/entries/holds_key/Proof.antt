@@ -8,19 +8,20 @@ use Rattle.memtable.proofs.entries.holds_key.Tie as tie
 find-requires : tie.Need-find-requires
 find-requires c κs = search rules
 
-enum_told : tie.Need-enum-told
+enum_told : tie.Need-enum_told-1
 enum_told c = search rules
 
-enum-told-2 : tie.Need-enum-told-2
+enum-told-2 : tie.Need-enum_told-in_default
 enum-told-2 c = search rules
 
-returns : tie.Need-returns
+returns : tie.Need-returns-in_default
 returns c =
-    sym (missed c.before.before.before.before.args.s.now c.before.before.before.before.args.key.value (sym c.before.before.find.ensures ∙ c.enum-told2.given.1))
+    sym (missed c.args.s.now c.args.key.value (sym c.find.ensures ∙ c.in_default.is))
 
-returns-2 : tie.Need-returns-2
+returns-2 : tie.Need-returns
 returns-2 c =
-    sym (held c.before.before.before.before.args.s.now c.before.before.before.before.args.key.value _ (sym c.before.before.find.ensures ∙ c.enum_told.given.1))
+    sym (held c.args.s.now c.args.key.value _ (sym c.find.ensures ∙ c.in-At.is))
 
-pub holds-key-spec : {M : Type 1} → statement M
-holds-key-spec = tie.close (tie.spec find-requires enum_told enum-told-2 returns returns-2)
+pub holds_key_spec : {M : Type 1} → statement M
+holds_key_spec =
+    tie.close (tie.spec find-requires enum_told enum-told-2 returns returns-2)

@@ -16,75 +16,75 @@ use Rattle.memtable.proofs.Build.{next-is, few-below, few-next, built, room-firs
 use Rattle.memtable.proofs.put.build_with.Statement.{statement}
 use Rattle.memtable.proofs.put.build_with.Tie as tie
 
-first-from-requires : tie.Need-first-from-requires
+first-from-requires : tie.Need-first_from-here-requires
 first-from-requires c κs = search rules
 
 clear-requires : tie.Need-clear-requires
 clear-requires c κs = search rules
 
-append-up-to-requires : tie.Need-append-up-to-requires
+append-up-to-requires : tie.Need-append_up_to-requires
 append-up-to-requires c κs =
-    let b = c.before.before.before.before.before.before.before.before.before in
+    let b = c in
     let a = b.args in
-    let i = c.before.before.before.before.before.first-from.ensures.0 in
+    let i = c.first_from-here.ensures.0 in
     let few = few-below a.to.now a.s.now a.held a.kind a.key.value a.value.now b.requires in (
       record { place = b.requires.place; good = b.requires.good; stands = sym (position_first a.s.now) },
       (
         omega arith,
-        rw (c.before.before.before.clear.ensures, i)
+        rw (c.clear.ensures, i)
             (room-first a.to.now a.s.now a.held a.kind a.key.value a.value.now b.requires),
       ),
     )
 
-first : (c : tie.After-append-up-to)
-    → let a = c.before.before.before.before.before.before.before.before.before.before.args in
-    c.append-up-to.new.0 ≡ appends (entries_at (count_below a.key.value (entries a.s.now)) a.s.now table_head) (table_bytes [])
+first : (c : tie.After-append_up_to)
+    → let a = c.args in
+    c.append_up_to.new.to ≡ appends (entries_at (count_below a.key.value (entries a.s.now)) a.s.now table_head) (table_bytes [])
 first c =
-    let i = c.before.before.before.before.before.before.first-from.ensures.0 in
-    let e = c.append-up-to.ensures in
-    let z = sub-zero c.before.before.before.before.before.before.first-from.result.index in
-    e ∙ rw (z, i, c.before.before.before.before.clear.ensures)
+    let i = c.first_from-here.ensures.0 in
+    let e = c.append_up_to.ensures in
+    let z = sub-zero c.first_from-here.result.index in
+    e ∙ rw (z, i, c.clear.ensures)
 
 append-requires : tie.Need-append-requires
 append-requires c κs =
-    let b = c.before.before.before.before.before.before.before.before.before.before.before.before.before in
+    let b = c in
     let a = b.args in
     room-appends _ a.kind a.value.now
     (rw (first c.before.before.before) (room-second a.to.now a.s.now a.held a.kind a.key.value a.value.now b.requires))
     b.requires.form
 
 second : (c : tie.After-append)
-    → let a = c.before.before.before.before.before.before.before.before.before.before.before.before.before.before.args in
-    c.append.new.0
+    → let a = c.args in
+    c.append.new.s
     ≡ appended (entry_of a.kind a.key.value a.value.now) (appends (entries_at (count_below a.key.value (entries a.s.now)) a.s.now table_head) (table_bytes []))
 second c =
     c.append.ensures ∙ rw (first c.before.before.before.before)
 
-pass-entry-requires : tie.Need-pass-entry-requires
+pass-entry-requires : tie.Need-pass_entry-requires
 pass-entry-requires c κs =
-    let b = c.before.before.before.before.before.before.before.before.before.before.before.before.before.before.before.before.before in
+    let b = c in
     let a = b.args in
-    let f = c.before.before.before.before.before.before.before.before.before.before.before.before.before.first-from.ensures in
+    let f = c.first_from-here.ensures in
     let few = few-below a.to.now a.s.now a.held a.kind a.key.value a.value.now b.requires in
     (record { place = b.requires.place; good = b.requires.good; stands = f.1 }, λ t. omega (arith, few.1 t))
 
 count-requires : tie.Need-count-requires
 count-requires c κs = search rules
 
-index : (c : tie.After-pass-entry)
-    → let a = c.before.before.before.before.before.before.before.before.before.before.before.before.before.before.before.before.before.before.args in
-    c.pass-entry.result.index ≡ next a.key.value (entries a.s.now)
+index : (c : tie.After-pass_entry)
+    → let a = c.args in
+    c.pass_entry.result.index ≡ next a.key.value (entries a.s.now)
 index c =
-    let a = c.before.before.before.before.before.before.before.before.before.before.before.before.before.before.before.before.before.before.args in
-    let f = c.before.before.before.before.before.before.before.before.before.before.before.before.before.before.first-from.ensures.0 in
-    c.pass-entry.ensures.0 ∙ rw f (sym (next-is a.to.now a.s.now a.held a.kind a.key.value a.value.now c.before.before.before.before.before.before.before.before.before.before.before.before.before.before.before.before.before.before.requires))
+    let a = c.args in
+    let f = c.first_from-here.ensures.0 in
+    c.pass_entry.ensures.0 ∙ rw f (sym (next-is a.to.now a.s.now a.held a.kind a.key.value a.value.now c.requires))
 
-append-up-to-requires-2 : tie.Need-append-up-to-requires-2
+append-up-to-requires-2 : tie.Need-append_up_to-requires-2
 append-up-to-requires-2 c κs =
-    let b = c.before.before.before.before.before.before.before.before.before.before.before.before.before.before.before.before.before.before.before in
+    let b = c in
     let a = b.args in
     let few = few-next a.to.now a.s.now a.held a.kind a.key.value a.value.now b.requires in (
-      record { place = b.requires.place; good = b.requires.good; stands = c.before.pass-entry.ensures.1 },
+      record { place = b.requires.place; good = b.requires.good; stands = c.pass_entry.ensures.1 },
       (
         omega (arith, c.count.ensures),
         rw (second c.before.before.before.before.before, c.count.ensures, index c.before)
@@ -92,28 +92,18 @@ append-up-to-requires-2 c κs =
       ),
     )
 
-same_length : tie.Need-same-length
+same_length : tie.Need-shape_of-to
 same_length c = search rules
 
 returns : tie.Need-returns
 returns c =
-    let b = c.before.before.before.before.before.before.before.before.before.before.before.before.before.before.before.before.before.before.before.before.before.before in
+    let b = c in
     let a = b.args in
-    let at = c.before.before.before.before.pass-entry.ensures.1 in
-    c.before.before.append-up-to2.ensures
-    ∙ rw (second c.before.before.before.before.before.before.before.before, c.before.before.before.count.ensures, at, index c.before.before.before.before)
+    let at = c.pass_entry.ensures.1 in
+    c.append_up_to-2.ensures
+    ∙ rw (second c.before.before.before.before.before.before.before.before, c.count.ensures, at, index c.before.before.before.before)
     (built a.to.now a.s.now a.held a.kind a.key.value a.value.now b.requires)
 
-pub build-with-spec : {M : Type 1} → statement M
-build-with-spec =
-    tie.close
-    (tie.spec
-    first-from-requires
-    clear-requires
-    append-up-to-requires
-    append-requires
-    pass-entry-requires
-    count-requires
-    append-up-to-requires-2
-    same_length
-    returns)
+pub build_with_spec : {M : Type 1} → statement M
+build_with_spec =
+    tie.close (tie.spec first-from-requires clear-requires append-up-to-requires append-requires pass-entry-requires count-requires append-up-to-requires-2 same_length returns)

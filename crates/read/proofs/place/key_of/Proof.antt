@@ -4,14 +4,15 @@ use native.Mathlib.Omega.{arith}
 use Rattle.read.proofs.place.key_of.Statement.{statement}
 use Rattle.read.proofs.place.key_of.Tie as tie
 
-bytes-of-requires : tie.Need-bytes-of-requires
-bytes-of-requires c κs = omega (arith, c.before.requires)
+bytes-of-requires : tie.Need-bytes_of-requires
+bytes-of-requires c κs = omega (arith, c.requires)
 
-key-at-requires : tie.Need-key-at-requires
-key-at-requires c κs = omega (arith, c.bytes_of.ensures.1, c.before.before.requires.1)
+key-at-requires : tie.Need-key_at-requires
+key-at-requires c κs = omega (arith, c.bytes_of.ensures.1, c.requires.1)
 
 returns : tie.Need-returns
-returns c = c.key-at.ensures ∙ rw c.before.bytes_of.ensures.0
+returns c = c.key_at.ensures ∙ rw c.bytes_of.ensures.0
 
-pub key-of-spec : {M : Type 1} → statement M
-key-of-spec = tie.close (tie.spec bytes-of-requires key-at-requires returns)
+pub key_of_spec : {M : Type 1} → statement M
+key_of_spec =
+    tie.close (tie.spec bytes-of-requires key-at-requires returns)

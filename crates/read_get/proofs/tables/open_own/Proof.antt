@@ -8,37 +8,36 @@ use Rattle.read_get.proofs.Sources.{own_in, own_out, own-settled}
 use Rattle.read_get.proofs.tables.open_own.Statement.{statement}
 use Rattle.read_get.proofs.tables.open_own.Tie as tie
 
-open-table-requires : tie.Need-open-table-requires
+open-table-requires : tie.Need-open_table-own-requires
 open-table-requires c κs = search rules
 
-returns : tie.Need-returns
+returns : tie.Need-returns-then-own
 returns c =
-    let b = c.before.before.before.before.before in
+    let b = c in
     let a = b.args in
-    let bytes : Bytes a.area.now = λ i. omega (arith, c.before.before.before.before.shared-slice-known.given i) in
+    let bytes : Bytes a.area.now = λ i. omega (arith, c.shared_slice_known-1.given i) in
     own-settled a.area.now a.cards.now a.key.value a.p _
     (readable a.area.now a.cards.now b.requires.0.legible a.p bytes b.requires.1.tabled)
-    c.before.before.before.open-table.ensures c.if1.true
+    c.open_table-own.ensures c.if-own.true
 
-span-holds-requires : tie.Need-span-holds-requires
-span-holds-requires c κs = let b = c.before.before.before.before.before in (b.requires.0.legible, b.requires.1.tabled)
+span-holds-requires : tie.Need-span_holds-requires
+span-holds-requires c κs = let b = c in (b.requires.0.legible, b.requires.1.tabled)
 
 nothing-requires : tie.Need-nothing-requires
 nothing-requires c κs = search rules
 
-returns-2 : tie.Need-returns-2
+returns-2 : tie.Need-returns-then-span_holds
 returns-2 c =
-    let a = c.before.before.before.before.before.before.before.args in
-    own_in a.area.now a.cards.now a.key.value a.p _ (sym c.before.span-holds.ensures ∙ c.if2.true)
-    c.before.before.before.before.before.open-table.ensures
+    let a = c.args in
+    own_in a.area.now a.cards.now a.key.value a.p _ (sym c.span_holds.ensures ∙ c.if-span_holds.true)
+    c.open_table-own.ensures
 
-returns-3 : tie.Need-returns-3
+returns-3 : tie.Need-returns-else-span_holds
 returns-3 c =
-    let a = c.before.before.before.before.before.before.before.before.args in
-    own_out a.area.now a.cards.now a.key.value a.p _ (sym c.before.before.span-holds.ensures ∙ c.before.if2.false)
+    let a = c.args in
+    own_out a.area.now a.cards.now a.key.value a.p _ (sym c.span_holds.ensures ∙ c.if-span_holds.false)
     record { missed = c.nothing.ensures.0; tables = c.nothing.ensures.1.0; bits = c.nothing.ensures.1.1 }
 
-pub open-own-spec : {M : Type 1} → statement M
-open-own-spec =
-    tie.close
-    (tie.spec open-table-requires returns span-holds-requires nothing-requires returns-2 returns-3)
+pub open_own_spec : {M : Type 1} → statement M
+open_own_spec =
+    tie.close (tie.spec open-table-requires returns span-holds-requires nothing-requires returns-2 returns-3)

@@ -5,14 +5,15 @@ use Rattle.reading.proofs.Floats.{nan-of, nan-free, nan-made}
 use Rattle.reading.proofs.float.float_of.Statement.{statement}
 use Rattle.reading.proofs.float.float_of.Tie as tie
 
-returns : tie.Need-returns
-returns c = nan-made ∙ sym (nan-of c.before.args.bits c.if1.true)
+returns : tie.Need-returns-then-bits-gt-INFINITY
+returns c = nan-made ∙ sym (nan-of c.args.bits c.if-bits-gt-INFINITY.true)
 
-float-from-bits-result : tie.Need-float-from-bits-result
-float-from-bits-result c = nan-free c.before.args.bits c.if1.false
+float-from-bits-result : tie.Need-float_from_bits-result
+float-from-bits-result c = nan-free c.args.bits c.if-bits-gt-INFINITY.false
 
-returns-2 : tie.Need-returns-2
+returns-2 : tie.Need-returns
 returns-2 c = search rules
 
-pub float-of-spec : {M : Type 1} → statement M
-float-of-spec = tie.close (tie.spec returns float-from-bits-result returns-2)
+pub float_of_spec : {M : Type 1} → statement M
+float_of_spec =
+    tie.close (tie.spec returns float-from-bits-result returns-2)

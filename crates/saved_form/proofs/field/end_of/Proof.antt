@@ -6,17 +6,18 @@ use Rattle.saved_form.proofs.Fields.{stands, broken, reach}
 use Rattle.saved_form.proofs.field.end_of.Statement.{statement}
 use Rattle.saved_form.proofs.field.end_of.Tie as tie
 
-sub-if1 : tie.Need-overflow-sub-if1
+sub-if1 : tie.Need-overflow_sub-s
 sub-if1 c = search rules
 
-add-t10 : tie.Need-overflow-add-t10
-add-t10 c = let a = c.before.args in omega (arith, reach (length a.s.now) a.at a.len a.formed c.before.requires c.if1.true, c.before.well-formed)
+add-t10 : tie.Need-overflow_add-result
+add-t10 c = let a = c.args in omega (arith, reach (length a.s.now) a.at a.len a.formed c.requires c.if-formed-len.true, c.well_formed)
 
-returns : tie.Need-returns
-returns c = let a = c.before.args in stands (length a.s.now) a.at a.len a.formed c.before.requires c.if1.true
+returns : tie.Need-returns-then-formed-len
+returns c = let a = c.args in stands (length a.s.now) a.at a.len a.formed c.requires c.if-formed-len.true
 
-returns-2 : tie.Need-returns-2
-returns-2 c = let a = c.before.args in broken (length a.s.now) a.at a.len a.formed c.before.requires c.if1.false
+returns-2 : tie.Need-returns-else-formed-len
+returns-2 c = let a = c.args in broken (length a.s.now) a.at a.len a.formed c.requires c.if-formed-len.false
 
-pub end-of-spec : {M : Type 1} → statement M
-end-of-spec = tie.close (tie.spec sub-if1 add-t10 returns returns-2)
+pub end_of_spec : {M : Type 1} → statement M
+end_of_spec =
+    tie.close (tie.spec sub-if1 add-t10 returns returns-2)

@@ -11,60 +11,48 @@ use Rattle.saved_form.proofs.Turns.{all_left, ended, goes_on, stops, met, missed
 use Rattle.saved_form.proofs.parts.lists_to.Statement.{statement}
 use Rattle.saved_form.proofs.parts.lists_to.Tie as tie
 
-abbrev invariant-loop : tie.invariant-loop
+abbrev invariant-loop : tie.invariant-loop-i
 invariant-loop s from i₀ at₀ i at = (at ≤ length s) × (lists_to s from ≡ in_turn (level_count - i) (list_to s) at)
 
-abbrev decreases-loop : tie.decreases-loop
+abbrev decreases-loop : tie.decreases-loop-i
 decreases-loop s from i₀ at₀ i at = level_count - i
 
-loop-holds : tie.Need-loop-init invariant-loop decreases-loop
+loop-holds : tie.Need-loop-i-init invariant-loop decreases-loop
 unfolding lists_to
-loop-holds c = let b = c.before in (b.requires.1, all_left level_count (list_to b.args.s.now) b.args.from)
+loop-holds c = let b = c in (b.requires.1, all_left level_count (list_to b.args.s.now) b.args.from)
 
-list-to-requires : tie.Need-list-to-requires invariant-loop decreases-loop
-list-to-requires c κs = (c.before.before.before.requires.0, c.before.loop.invariant.0)
+list-to-requires : tie.Need-list_to-requires invariant-loop decreases-loop
+list-to-requires c κs = (c.requires.0, c.loop-i.invariant.0)
 
-enum-known-next : tie.Need-enum-known-next invariant-loop decreases-loop
+enum-known-next : tie.Need-enum_known-next invariant-loop decreases-loop
 enum-known-next c = search rules
 
-enum_told : tie.Need-enum-told invariant-loop decreases-loop
+enum_told : tie.Need-enum_told-1 invariant-loop decreases-loop
 enum_told c = search rules
 
-returns : tie.Need-returns invariant-loop decreases-loop
+returns : tie.Need-returns-in_default invariant-loop decreases-loop
 returns c =
-    let l = c.before.before.before.before.loop in
-    stops _ _ l.i l.at _ l.invariant.1 c.before.before.before.loop-test.true (missed c.before.before.list-to.ensures c.enum_told.given.1)
+    let l = c.loop-i in
+    stops _ _ l.i l.at _ l.invariant.1 c.loop-i-test.true (missed c.list_to.ensures c.in_default.is)
 
-add-i : tie.Need-overflow-add-i invariant-loop decreases-loop
-add-i c = omega (arith, c.before.before.before.before.loop-test.true)
+add-i : tie.Need-overflow_add-i invariant-loop decreases-loop
+add-i c = omega (arith, c.loop-i-test.true)
 
-loop-less : tie.Need-loop-smaller invariant-loop decreases-loop
-loop-less c = omega (arith, c.before.before.before.before.loop-test.true)
+loop-less : tie.Need-loop-i-smaller invariant-loop decreases-loop
+loop-less c = omega (arith, c.loop-i-test.true)
 
-loop-again : tie.Need-loop-preserved invariant-loop decreases-loop
+loop-again : tie.Need-loop-i-preserved invariant-loop decreases-loop
 loop-again c =
-    let l = c.before.before.before.before.before.loop in
-    let s = c.before.before.before.before.before.before.before.args.s.now in
-    let next = met c.before.before.before.list-to.ensures c.before.next.given.1 in (
+    let l = c.loop-i in
+    let s = c.args.s.now in
+    let next = met c.list_to.ensures c.in-At.is in (
       list-within s l.at _ (sym next),
-      goes_on _ _ l.i l.at _ l.invariant.1 c.before.before.before.before.loop-test.true _ next,
+      goes_on _ _ l.i l.at _ l.invariant.1 c.loop-i-test.true _ next,
     )
 
-returns-2 : tie.Need-returns-2 invariant-loop decreases-loop
-returns-2 c = let l = c.before.loop in ended _ _ l.i l.at _ l.invariant.1 c.loop-test.false
+returns-2 : tie.Need-returns invariant-loop decreases-loop
+returns-2 c = let l = c.loop-i in ended _ _ l.i l.at _ l.invariant.1 c.loop-i-test.false
 
-pub lists-to-spec : {M : Type 1} → statement M
-lists-to-spec =
-    tie.close
-    (tie.spec
-    invariant-loop
-    decreases-loop
-    loop-holds
-    list-to-requires
-    enum-known-next
-    enum_told
-    returns
-    add-i
-    loop-less
-    loop-again
-    returns-2)
+pub lists_to_spec : {M : Type 1} → statement M
+lists_to_spec =
+    tie.close (tie.spec invariant-loop decreases-loop loop-holds list-to-requires enum-known-next enum_told returns add-i loop-less loop-again returns-2)

@@ -4,38 +4,30 @@ use borrow.Author.Rules.{rules}
 use Rattle.saved_read.proofs.lists.read_list.Statement.{statement}
 use Rattle.saved_read.proofs.lists.read_list.Tie as tie
 
-get-u16-requires : tie.Need-get-u16-requires
+get-u16-requires : tie.Need-get_u16-n-requires
 get-u16-requires c κs = search rules
 
-cast-n : tie.Need-overflow-cast-n
+cast-n : tie.Need-overflow_cast-n
 cast-n c = search rules
 
-add-put-items : tie.Need-overflow-add-put-items
+add-put-items : tie.Need-overflow_add-at
 add-put-items c = search rules
 
-put-items-requires : tie.Need-put-items-requires
+put-items-requires : tie.Need-put_items-requires
 put-items-requires c κs = search rules
 
-zero-from-requires : tie.Need-zero-from-requires
+zero-from-requires : tie.Need-zero_from-requires
 zero-from-requires c κs = search rules
 
-same_length : tie.Need-same-length
+same_length : tie.Need-shape_of-part
 same_length c = search rules
 
 returns : tie.Need-returns
 returns c =
-    let b = c.before.before.before.before.before.before.before.before.before.before.before in
-    part-whole b.args.part.now _ _ b.args.s.now b.args.at _ c.before.before.before.before.before.before.before.before.get-u16.ensures b.requires.1
-    c.before.before.before.before.before.before.put-items.ensures c.before.before.zero-from.ensures
+    let b = c in
+    part-whole b.args.part.now _ _ b.args.s.now b.args.at _ c.get_u16-n.ensures b.requires.1
+    c.put_items.ensures c.zero_from.ensures
 
-pub read-list-spec : {M : Type 1} → statement M
-read-list-spec =
-    tie.close
-    (tie.spec
-    get-u16-requires
-    cast-n
-    add-put-items
-    put-items-requires
-    zero-from-requires
-    same_length
-    returns)
+pub read_list_spec : {M : Type 1} → statement M
+read_list_spec =
+    tie.close (tie.spec get-u16-requires cast-n add-put-items put-items-requires zero-from-requires same_length returns)

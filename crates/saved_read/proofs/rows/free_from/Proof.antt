@@ -12,53 +12,43 @@ use native.Mathlib.Omega.{arith}
 use Rattle.saved_read.proofs.rows.free_from.Statement.{statement}
 use Rattle.saved_read.proofs.rows.free_from.Tie as tie
 
-abbrev invariant-loop : tie.invariant-loop
+abbrev invariant-loop : tie.invariant-loop-i
 invariant-loop rows₀ from i₀ rows i =
     (i ≤ length rows₀)
     × (length rows ≡ length rows₀)
     × (sets rows₀ from (replicate (length rows₀ - from) (row_with free (zeros summary_words))) ≡ sets rows i (replicate (length rows₀ - i) (row_with free (zeros summary_words))))
 
-abbrev decreases-loop : tie.decreases-loop
+abbrev decreases-loop : tie.decreases-loop-i
 decreases-loop rows₀ from i₀ rows i = length rows₀ - i
 
-loop-holds : tie.Need-loop-init invariant-loop decreases-loop
+loop-holds : tie.Need-loop-i-init invariant-loop decreases-loop
 loop-holds c = (omega arith, refl, refl)
 
 free-requires : tie.Need-free-requires invariant-loop decreases-loop
 free-requires c κs = omega arith
 
-add-i : tie.Need-overflow-add-i invariant-loop decreases-loop
+add-i : tie.Need-overflow_add-i invariant-loop decreases-loop
 add-i c = omega arith
 
-loop-less : tie.Need-loop-smaller invariant-loop decreases-loop
+loop-less : tie.Need-loop-i-smaller invariant-loop decreases-loop
 loop-less c = omega arith
 
-loop-again : tie.Need-loop-preserved invariant-loop decreases-loop
+loop-again : tie.Need-loop-i-preserved invariant-loop decreases-loop
 loop-again c =
-    let l = c.before.before.before.before.loop in
-    let n = length c.before.before.before.before.before.args.rows.now in
-    let e = c.before.free.ensures in
+    let l = c.loop-i in
+    let n = length c.args.rows.now in
+    let e = c.free.ensures in
     (omega arith, rw e (simp length-set l.invariant.1), rw e (l.invariant.2 ∙ free-turn l.rows (row_with free (zeros summary_words)) n l.i (omega arith)))
 
-same_length : tie.Need-same-length invariant-loop decreases-loop
-same_length c = c.before.loop.invariant.1
+same_length : tie.Need-shape_of-rows invariant-loop decreases-loop
+same_length c = c.loop-i.invariant.1
 
 returns : tie.Need-returns invariant-loop decreases-loop
 returns c =
-    let l = c.before.loop in
-    let n = length c.before.before.args.rows.now in
+    let l = c.loop-i in
+    let n = length c.args.rows.now in
     sym (l.invariant.2 ∙ free-done l.rows (row_with free (zeros summary_words)) n l.i (omega arith))
 
-pub free-from-spec : {M : Type 1} → statement M
-free-from-spec =
-    tie.close
-    (tie.spec
-    invariant-loop
-    decreases-loop
-    loop-holds
-    free-requires
-    add-i
-    loop-less
-    loop-again
-    same_length
-    returns)
+pub free_from_spec : {M : Type 1} → statement M
+free_from_spec =
+    tie.close (tie.spec invariant-loop decreases-loop loop-holds free-requires add-i loop-less loop-again same_length returns)

@@ -12,38 +12,37 @@ use Rattle.saved_read.proofs.summaries.sum_place.Statement.{statement}
 use Rattle.saved_read.proofs.summaries.sum_place.Tie as tie
 
 -- A place that is not free, and what was judged of it.
-used : (c : tie.Else1) → is_free (card_of c.before.before.before.args.row.now) ≡ false
-used c = sym c.before.is_free.ensures ∙ c.if1.false
+used : (c : tie.Else-is_free) → is_free (card_of c.args.row.now) ≡ false
+used c = sym c.is_free.ensures ∙ c.if-is_free.false
 
-held : (c : tie.Else2) → is_table c.before.before.before.before.before.before.args.bytes.now ≡ true
-held c = sym c.before.before.judge.ensures.0 ∙ not-false _ c.if2.false
+held : (c : tie.Else-not-judge) → is_table c.args.bytes.now ≡ true
+held c = sym c.judge.ensures.0 ∙ not-false _ c.if-not-judge.false
 
-is-free-requires : tie.Need-is-free-requires
+is-free-requires : tie.Need-is_free-requires
 is-free-requires c κs = search rules
 
-returns : tie.Need-returns
+returns : tie.Need-returns-then-is_free
 unfolding zeros
-returns c = fresh-free _ _ (sym c.before.is_free.ensures ∙ c.if1.true)
+returns c = fresh-free _ _ (sym c.is_free.ensures ∙ c.if-is_free.true)
 
 judge-requires : tie.Need-judge-requires
 judge-requires c κs = search rules
 
-returns-2 : tie.Need-returns-2
+returns-2 : tie.Need-returns-then-not-judge
 unfolding zeros
 returns-2 c =
-    let j = c.before.before in
-    fresh-none _ _ (used j.before) (sym j.judge.ensures.0 ∙ not-true _ c.if2.true)
+    let j = c in
+    fresh-none _ _ (used j.before.before.before) (sym j.judge.ensures.0 ∙ not-true _ c.if-not-judge.true)
 
-of-table-requires : tie.Need-of-table-requires
+of-table-requires : tie.Need-of_table-requires
 of-table-requires c κs = (search rules, table-memory _ (held c))
 
-returns-3 : tie.Need-returns-3
+returns-3 : tie.Need-returns
 unfolding table_summary
 returns-3 c =
-    let e = c.before in
-    c.of-table.ensures ∙ fresh-table _ _ (used e.before.before.before) (held e)
+    let e = c in
+    c.of_table.ensures ∙ fresh-table _ _ (used e.before.before.before.before) (held e.before)
 
-pub sum-place-spec : {M : Type 1} → statement M
-sum-place-spec =
-    tie.close
-    (tie.spec is-free-requires returns judge-requires returns-2 of-table-requires returns-3)
+pub sum_place_spec : {M : Type 1} → statement M
+sum_place_spec =
+    tie.close (tie.spec is-free-requires returns judge-requires returns-2 of-table-requires returns-3)

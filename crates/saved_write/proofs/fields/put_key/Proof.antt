@@ -10,21 +10,22 @@ use Rattle.saved_write.proofs.fields.put_key.Tie as tie
 put-requires : tie.Need-put-requires
 put-requires c κs = search rules
 
-add-result : tie.Need-overflow-add-result
+add-result : tie.Need-overflow_add-result
 add-result c = search rules
 
-same_length : tie.Need-same-length
+same_length : tie.Need-shape_of-out
 same_length c = search rules
 
 returns : tie.Need-returns
 returns c =
-    let a = c.before.before.before.before.before.args in (
+    let a = c.args in (
       record {
-        written = unfold key_bytes in c.before.before.put.ensures;
+        written = unfold key_bytes in c.put.ensures;
         behind = ap (λ k. a.at + k) (sym (length-key a.key));
       },
       refl,
     )
 
-pub put-key-spec : {M : Type 1} → statement M
-put-key-spec = tie.close (tie.spec put-requires add-result same_length returns)
+pub put_key_spec : {M : Type 1} → statement M
+put_key_spec =
+    tie.close (tie.spec put-requires add-result same_length returns)

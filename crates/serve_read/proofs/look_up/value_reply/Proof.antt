@@ -17,104 +17,84 @@ use Rattle.read.proofs.Walks.{mark-value, some-value}
 use Rattle.serve_read.proofs.look_up.value_reply.Statement.{statement}
 use Rattle.serve_read.proofs.look_up.value_reply.Tie as tie
 
-kind-at-requires : tie.Need-kind-at-requires
+kind-at-requires : tie.Need-kind_at-requires
 kind-at-requires c κs = search rules
 
-write-head-requires : tie.Need-write-head-requires
+write-head-requires : tie.Need-write_head-requires
 write-head-requires c κs = search rules
 
-same_length : tie.Need-same-length
+same_length : tie.Need-shape_of-answer-then-kind_at-eq-DELETE_MARK
 same_length c = search rules
 
-returns : tie.Need-returns
+returns : tie.Need-returns-then-kind_at-eq-DELETE_MARK
 returns c =
-    let a = c.before.before.before.before.before.before.before.before.args in
-    let e = mark-value a.s.now a.from (sym c.before.before.before.before.before.kind_at.ensures ∙ c.before.before.before.before.if1.true) in
+    let a = c.args in
+    let e = mark-value a.s.now a.from (sym c.kind_at.ensures ∙ c.if-kind_at-eq-DELETE_MARK.true) in
     record {
-      bytes = c.before.before.write-head.ensures ∙ reply-written a.answer.now a.at 3 64 [] ∙ rw e;
+      bytes = c.write_head.ensures ∙ reply-written a.answer.now a.at 3 64 [] ∙ rw e;
       count = rw e (sym (length-reply 3 64 []));
     }
 
-add_start : tie.Need-overflow-add-start
+add_start : tie.Need-overflow_add-start
 add_start c = search rules
 
-length-at-requires : tie.Need-length-at-requires
+length-at-requires : tie.Need-length_at-requires
 length-at-requires c κs = search rules
 
-cast-end : tie.Need-overflow-cast-end
+cast-end : tie.Need-overflow_cast-end
 cast-end c = search rules
 
-add-end : tie.Need-overflow-add-end
+add-end : tie.Need-overflow_add-end
 add-end c = search rules
 
-sub-write-head : tie.Need-overflow-sub-write-head
+sub-write-head : tie.Need-overflow_sub-end
 sub-write-head c = search rules
 
-write-head-requires-2 : tie.Need-write-head-requires-2
+write-head-requires-2 : tie.Need-write_head-requires-2
 write-head-requires-2 c κs = search rules
 
-add-copy : tie.Need-overflow-add-copy
+add-copy : tie.Need-overflow_add-at
 add-copy c = search rules
 
-sub-copy : tie.Need-overflow-sub-copy
+sub-copy : tie.Need-slice_bounds-copy-count
 sub-copy c = search rules
 
-part-copy-start : tie.Need-slice-bounds-copy-start
+part-copy-start : tie.Need-slice_bounds-copy-start
 part-copy-start c = search rules
 
-part-copy-end : tie.Need-slice-bounds-copy-end
+part-copy-end : tie.Need-slice_bounds-copy-end
 part-copy-end c = search rules
 
 copy-requires : tie.Need-copy-requires
 copy-requires c κs = search rules
 
-sub-result : tie.Need-overflow-sub-result
+sub-result : tie.Need-overflow_sub-result
 sub-result c = search rules
 
-add-result : tie.Need-overflow-add-result
+add-result : tie.Need-overflow_add-result
 add-result c = search rules
 
-same-length-2 : tie.Need-same-length-2
+same-length-2 : tie.Need-shape_of-answer
 same-length-2 c = search rules
 
-returns-2 : tie.Need-returns-2
+returns-2 : tie.Need-returns
 returns-2 c =
-    let a = c.before.before.before.before.before.before.before.before.before.before.before.before.before.before.args in
+    let a = c.args in
     let s = a.s.now in
-    let t = c.before.before.before.before.before.before.before.before.before.before.before.before.before.before.requires.1.0 in
+    let t = c.requires.1.0 in
     let v = take (length_at s a.from - entry_head) (drop (a.from + entry_head) s) in
     let e : (entry_at s a.from).value ≡ some v =
-    some-value s a.from (λ q. c.before.before.before.before.before.before.before.before.before.before.if1.false (c.before.before.before.before.before.before.before.before.before.before.before.kind_at.ensures ∙ q)) in
-    let n : a.from + c.before.before.before.before.before.before.before.before.before.length-at.result - (a.from + 12) ≡ length_at s a.from - entry_head =
-    omega (arith, c.before.before.before.before.before.before.before.before.before.length-at.ensures) in
-    let long : length v ≡ length_at s a.from - entry_head = length_part s (a.from + entry_head) (length_at s a.from - entry_head) (omega (arith, t, c.before.before.before.before.before.before.before.before.before.before.before.before.before.before.requires.0)) in
+    some-value s a.from (λ q. c.if-kind_at-eq-DELETE_MARK.false (c.kind_at.ensures ∙ q)) in
+    let n : a.from + c.length_at.result - (a.from + 12) ≡ length_at s a.from - entry_head =
+    omega (arith, c.length_at.ensures) in
+    let long : length v ≡ length_at s a.from - entry_head = length_part s (a.from + entry_head) (length_at s a.from - entry_head) (omega (arith, t, c.requires.0)) in
     record {
-      bytes = c.before.before.copy.ensures
-          ∙ rw (c.before.before.before.before.before.before.before.write-head2.ensures, n)
+      bytes = c.copy.ensures
+          ∙ rw (c.write_head-2.ensures, n)
           (ap (λ (m : ℕ). sets (sets a.answer.now a.at (reply_head 3 0 m)) (a.at + 6) v) (sym long) ∙ reply-written a.answer.now a.at 3 0 v ∙ rw e);
       count = rw (n, e) (omega (arith, length-reply 3 0 v));
     }
 
-pub value-reply-spec : {M : Type 1} → statement M
-value-reply-spec =
-    tie.close
-    (tie.spec
-    kind-at-requires
-    write-head-requires
-    same_length
-    returns
-    add_start
-    length-at-requires
-    cast-end
-    add-end
-    sub-write-head
-    write-head-requires-2
-    add-copy
-    sub-copy
-    part-copy-start
-    part-copy-end
-    copy-requires
-    sub-result
-    add-result
-    same-length-2
-    returns-2)
+pub value_reply_spec : {M : Type 1} → statement M
+value_reply_spec =
+    tie.close (tie.spec kind-at-requires write-head-requires same_length returns add_start length-at-requires cast-end add-end sub-write-head write-head-requires-2 add-copy sub-copy part-copy-start part-copy-end copy-requires sub-result add-result same-length-2 returns-2)

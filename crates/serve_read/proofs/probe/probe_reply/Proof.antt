@@ -14,120 +14,103 @@ use Rattle.serve_read.proofs.probe.probe_reply.Tie as tie
 abbrev found : tie.Start → Lent
 found c = lent c.args.area.now c.args.cards.now c.args.lists.now (head_words c.args.head) c.args.memory.now
 
-sound : (c : tie.After-probe) → Sound (store_of (found c.before.before.before.before.before))
+sound : (c : tie.After-probe-told) → Sound (store_of (found c.before.before.before.before.before))
 sound c =
-    let b = c.before.before.before.before.before in
-    sound-kept (found b) b.requires.0.kept b.requires.0.memory
-    (λ i. omega (arith, c.before.before.shared-slice-known3.given i)) (λ i. omega (arith, c.before.before.before.before.shared-slice-known.given i))
+    let b = c in
+    sound-kept (found b.before.before.before.before.before) b.requires.0.kept b.requires.0.memory
+    (λ i. omega (arith, c.shared_slice_known-3-1.given i)) (λ i. omega (arith, c.shared_slice_known-1.given i))
 
-probe-requires : tie.Need-probe-requires
+probe-requires : tie.Need-probe-told-requires
 probe-requires c κs = search rules
 
-cast-tables : tie.Need-overflow-cast-tables
+cast-tables : tie.Need-overflow_cast-tables
 cast-tables c =
-    let k = c.before in
-    let b = k.before.before.before.before.before in
-    record { fits = tables-fit (store_of (found b)) (sound k) b.args.key.value _ k.probe.ensures.1.0 }
+    let k = c in
+    let b = k in
+    record { fits = tables-fit (store_of (found b.before.before.before.before.before.before)) (sound k.before) b.args.key.value _ k.probe-told.ensures.1.0 }
 
-cast-bits : tie.Need-overflow-cast-bits
+cast-bits : tie.Need-overflow_cast-bits
 cast-bits c =
-    let k = c.before.before in
-    let b = k.before.before.before.before.before in
-    record { fits = bits_fit (store_of (found b)) (sound k) b.args.key.value _ k.probe.ensures.1.1 }
+    let k = c in
+    let b = k in
+    record { fits = bits_fit (store_of (found b.before.before.before.before.before.before.before)) (sound k.before.before) b.args.key.value _ k.probe-told.ensures.1.1 }
 
-enum-known-spot : tie.Need-enum-known-spot
+enum-known-spot : tie.Need-enum_known-spot
 enum-known-spot c = search rules
 
-decided-reply-requires : tie.Need-decided-reply-requires
+decided-reply-requires : tie.Need-decided_reply-requires
 decided-reply-requires c κs =
-    let m = c.before.before in
-    let k = m.before.before.before.before in
-    let b = k.before.before.before.before.before in
-    let t = rw m.spot.given.1 at k.probe.ensures.0 in
+    let m = c in
+    let k = m in
+    let b = k in
+    let t = rw m.in-Memory.is at k.probe-told.ensures.0 in
     (b.requires.0.memory, (t.seated, b.requires.1))
 
-enum-known-spot-2 : tie.Need-enum-known-spot-2
+enum-known-spot-2 : tie.Need-enum_known-spot-in-Place-1
 enum-known-spot-2 c = search rules
 
-bytes-of-requires : tie.Need-bytes-of-requires
+bytes-of-requires : tie.Need-bytes_of-requires
 bytes-of-requires c κs =
-    let m = c.before in
-    let k = m.before.before.before.before in
-    let t = rw m.spot2.given.1 at k.probe.ensures.0 in
+    let m = c in
+    let k = m in
+    let t = rw m.in-Place.is at k.probe-told.ensures.0 in
     omega (arith, t.seated.0)
 
-decided-reply-requires-2 : tie.Need-decided-reply-requires-2
+decided-reply-requires-2 : tie.Need-decided_reply-requires-in-Place
 decided-reply-requires-2 c κs =
-    let y = c.before in
-    let m = y.before.before in
-    let k = m.before.before.before.before in
-    let b = k.before.before.before.before.before in
-    let t = rw m.spot2.given.1 at k.probe.ensures.0 in
+    let y = c in
+    let m = y in
+    let k = m in
+    let b = k in
+    let t = rw m.in-Place.is at k.probe-told.ensures.0 in
     (y.bytes_of.ensures.1, (rw y.bytes_of.ensures.0 t.seated.1, b.requires.1))
 
-enum_told : tie.Need-enum-told
+enum_told : tie.Need-enum_told-1
 enum_told c = search rules
 
-missed-reply-requires : tie.Need-missed-reply-requires
+missed-reply-requires : tie.Need-missed_reply-requires
 missed-reply-requires c κs = search rules
 
-same_length : tie.Need-same-length
+same_length : tie.Need-shape_of-answer-in-Memory
 same_length c = search rules
 
-returns : tie.Need-returns
+returns : tie.Need-returns-in-Memory
 returns c =
-    let r = c.before.before in
-    let m = r.before.before.before in
-    let k = m.before.before.before.before in
-    let b = k.before.before.before.before.before in
-    let t = rw m.spot.given.1 at k.probe.ensures.0 in
-    let e = probe_found (store_of (found b)) b.args.key.value _ _ k.probe.ensures.1.0 k.probe.ensures.1.1 _ t.shown in
-    rw e r.decided-reply.ensures
+    let r = c in
+    let m = r in
+    let k = m in
+    let b = k in
+    let t = rw m.in-Memory.is at k.probe-told.ensures.0 in
+    let e = probe_found (store_of (found b.before.before.before.before.before.before.before.before.before.before.before.before)) b.args.key.value _ _ k.probe-told.ensures.1.0 k.probe-told.ensures.1.1 _ t.shown in
+    rw e r.decided_reply.ensures
 
-same-length-2 : tie.Need-same-length-2
+same-length-2 : tie.Need-shape_of-answer-in-Place
 same-length-2 c = search rules
 
-returns-2 : tie.Need-returns-2
+returns-2 : tie.Need-returns-in-Place
 returns-2 c =
-    let r = c.before.before in
-    let y = r.before.before in
-    let m = y.before.before in
-    let k = m.before.before.before.before in
-    let b = k.before.before.before.before.before in
-    let t = rw m.spot2.given.1 at k.probe.ensures.0 in
-    let e = probe_found (store_of (found b)) b.args.key.value _ _ k.probe.ensures.1.0 k.probe.ensures.1.1 _ t.shown in
-    rw e (rw y.bytes_of.ensures.0 at r.decided-reply2.ensures)
+    let r = c in
+    let y = r in
+    let m = y in
+    let k = m in
+    let b = k in
+    let t = rw m.in-Place.is at k.probe-told.ensures.0 in
+    let e = probe_found (store_of (found b.before.before.before.before.before.before.before.before.before.before.before.before.before)) b.args.key.value _ _ k.probe-told.ensures.1.0 k.probe-told.ensures.1.1 _ t.shown in
+    rw e (rw y.bytes_of.ensures.0 at r.decided_reply-in-Place.ensures)
 
-same-length-3 : tie.Need-same-length-3
+same-length-3 : tie.Need-shape_of-answer-in-Nothing
 same-length-3 c = search rules
 
-returns-3 : tie.Need-returns-3
+returns-3 : tie.Need-returns-in-Nothing
 returns-3 c =
-    let r = c.before.before in
-    let m = r.before.before in
-    let k = m.before.before.before.before in
-    let b = k.before.before.before.before.before in
-    let t = rw m.enum_told.given.1 at k.probe.ensures.0 in
-    let e = probe-missed (store_of (found b)) b.args.key.value _ _ k.probe.ensures.1.0 k.probe.ensures.1.1 t.shown in
-    rw e r.missed-reply.ensures
+    let r = c in
+    let m = r in
+    let k = m in
+    let b = k in
+    let t = rw m.in-Nothing.is at k.probe-told.ensures.0 in
+    let e = probe-missed (store_of (found b.before.before.before.before.before.before.before.before.before.before.before.before)) b.args.key.value _ _ k.probe-told.ensures.1.0 k.probe-told.ensures.1.1 t.shown in
+    rw e r.missed_reply.ensures
 
-pub probe-reply-spec : {M : Type 1} → statement M
-probe-reply-spec =
-    tie.close
-    (tie.spec
-    probe-requires
-    cast-tables
-    cast-bits
-    enum-known-spot
-    decided-reply-requires
-    enum-known-spot-2
-    bytes-of-requires
-    decided-reply-requires-2
-    enum_told
-    missed-reply-requires
-    same_length
-    returns
-    same-length-2
-    returns-2
-    same-length-3
-    returns-3)
+pub probe_reply_spec : {M : Type 1} → statement M
+probe_reply_spec =
+    tie.close (tie.spec probe-requires cast-tables cast-bits enum-known-spot decided-reply-requires enum-known-spot-2 bytes-of-requires decided-reply-requires-2 enum_told missed-reply-requires same_length returns same-length-2 returns-2 same-length-3 returns-3)

@@ -3,11 +3,12 @@ use borrow.Author.Tests.{lt-ltb, le-ltb}
 use Rattle.serve_read.proofs.scan.tell_more.Statement.{statement}
 use Rattle.serve_read.proofs.scan.tell_more.Tie as tie
 
-returns : tie.Need-returns
-returns c = rw (lt-ltb _ _ c.if1.true)
+returns : tie.Need-returns-then-found-gt-SCAN_LIMIT
+returns c = rw (lt-ltb _ _ c.if-found-gt-SCAN_LIMIT.true)
 
-returns-2 : tie.Need-returns-2
-returns-2 c = rw (le-ltb _ _ c.if1.false)
+returns-2 : tie.Need-returns-else-found-gt-SCAN_LIMIT
+returns-2 c = rw (le-ltb _ _ c.if-found-gt-SCAN_LIMIT.false)
 
-pub tell-more-spec : {M : Type 1} → statement M
-tell-more-spec = tie.close (tie.spec returns returns-2)
+pub tell_more_spec : {M : Type 1} → statement M
+tell_more_spec =
+    tie.close (tie.spec returns returns-2)

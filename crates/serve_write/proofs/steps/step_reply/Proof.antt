@@ -9,43 +9,35 @@ use Rattle.serve_write.proofs.Turns.{step-written, step-length}
 use Rattle.serve_write.proofs.steps.step_reply.Statement.{statement}
 use Rattle.serve_write.proofs.steps.step_reply.Tie as tie
 
-write-head-requires : tie.Need-write-head-requires
+write-head-requires : tie.Need-write_head-requires
 write-head-requires c κs = search rules
 
-add-put-numbers : tie.Need-overflow-add-put-numbers
+add-put-numbers : tie.Need-overflow_add-at
 add-put-numbers c = search rules
 
-slice-aggregate-put-numbers : tie.Need-slice-aggregate-put-numbers
+slice-aggregate-put-numbers : tie.Need-slice_bounds-put_numbers-end
 slice-aggregate-put-numbers c = search rules
 
-put-numbers-requires : tie.Need-put-numbers-requires
+put-numbers-requires : tie.Need-put_numbers-requires
 put-numbers-requires c κs = search rules
 
-add-result : tie.Need-overflow-add-result
+add-result : tie.Need-overflow_add-result
 add-result c = search rules
 
-same_length : tie.Need-same-length
+same_length : tie.Need-shape_of-answer
 same_length c = search rules
 
 returns : tie.Need-returns
 returns c =
-    let r = c.before.before in
-    let h = r.before.before.before.before.before in
-    let a = h.before.before.before.args in
+    let r = c in
+    let h = r in
+    let a = h.args in
     record {
-      bytes = r.put-numbers.ensures ∙ ap (λ (x : List ℕ). sets x (a.at + 6) (numbers (a.step ∷ a.level ∷ []))) h.write-head.ensures
+      bytes = r.put_numbers.ensures ∙ ap (λ (x : List ℕ). sets x (a.at + 6) (numbers (a.step ∷ a.level ∷ []))) h.write_head.ensures
           ∙ step-written a.answer.now a.at a.step a.level;
       count = sym (step-length a.step a.level);
     }
 
-pub step-reply-spec : {M : Type 1} → statement M
-step-reply-spec =
-    tie.close
-    (tie.spec
-    write-head-requires
-    add-put-numbers
-    slice-aggregate-put-numbers
-    put-numbers-requires
-    add-result
-    same_length
-    returns)
+pub step_reply_spec : {M : Type 1} → statement M
+step_reply_spec =
+    tie.close (tie.spec write-head-requires add-put-numbers slice-aggregate-put-numbers put-numbers-requires add-result same_length returns)

@@ -13,73 +13,60 @@ use Rattle.store_save.proofs.carry.rows.Tie as tie
 use Rattle.store_save.proofs.carry.rows.Reads as reads
 use Rattle.store_save.proofs.carry.rows.Lts as lts
 
-abbrev invariant-loop : tie.invariant-loop
+abbrev invariant-loop : tie.invariant-loop-i
 invariant-loop from to₀ i₀ to i = (i ≤ length from) × (length to ≡ length to₀) × (from ≡ sets to i (drop i from))
 
-abbrev decreases-loop : tie.decreases-loop
+abbrev decreases-loop : tie.decreases-loop-i
 decreases-loop from to₀ i₀ to i = length from - i
 
 -- src/carry.rt:12:5
-loop-holds : tie.Need-loop-init invariant-loop decreases-loop
+loop-holds : tie.Need-loop-i-init invariant-loop decreases-loop
 loop-holds c = (omega arith, refl, sym (sets-all c.args.to.now c.args.from.now c.requires))
 
 -- src/carry.rt:13:17
-mul-to : tie.Need-overflow-mul-to invariant-loop decreases-loop
+mul-to : tie.Need-offset_bounds-from-i invariant-loop decreases-loop
 mul-to c = search rules
 
 -- src/carry.rt:13:17
-shared-slice-copy-out-to : tie.Need-shared-slice-copy-out-to invariant-loop decreases-loop
+shared-slice-copy-out-to : tie.Need-bounds-from-i invariant-loop decreases-loop
 shared-slice-copy-out-to c = search rules
 
 -- src/carry.rt:13:9
-mul-t8 : tie.Need-overflow-mul-t8 invariant-loop decreases-loop
+mul-t8 : tie.Need-offset_bounds-to-i invariant-loop decreases-loop
 mul-t8 c = search rules
 
 -- src/carry.rt:13:9
-slice-set-from-to : tie.Need-slice-set-from-to invariant-loop decreases-loop
+slice-set-from-to : tie.Need-bounds-to-i invariant-loop decreases-loop
 slice-set-from-to c = search rules
 
 -- src/carry.rt:14:9
-add-i : tie.Need-overflow-add-i invariant-loop decreases-loop
+add-i : tie.Need-overflow_add-i invariant-loop decreases-loop
 add-i c = search rules
 
 -- src/carry.rt:12:5
-loop-less : tie.Need-loop-smaller invariant-loop decreases-loop
+loop-less : tie.Need-loop-i-smaller invariant-loop decreases-loop
 loop-less c = omega arith
 
 -- src/carry.rt:12:5
-loop-again : tie.Need-loop-preserved invariant-loop decreases-loop
+loop-again : tie.Need-loop-i-preserved invariant-loop decreases-loop
 loop-again c =
-    let l = c.before.before.loop in
-    let a = c.before.before.before.args in
+    let l = c.loop-i in
+    let a = c.args in
     (omega arith, simp length-set l.invariant.1, l.invariant.2 ∙ carry-turn l.to a.from.now l.i [] (omega arith))
 
 -- src/carry.rt:7:1
-same_length : tie.Need-same-length invariant-loop decreases-loop
-same_length c = c.before.loop.invariant.1
+same_length : tie.Need-shape_of-to invariant-loop decreases-loop
+same_length c = c.loop-i.invariant.1
 
 -- src/carry.rt:7:1
 returns : tie.Need-returns invariant-loop decreases-loop
 returns c =
-    let l = c.before.loop in
-    let v = c.before.before.args.from.now in
+    let l = c.loop-i in
+    let v = c.args.from.now in
     let none : drop l.i v ≡ [] = drop_of_length-le v {i = l.i} (omega arith) in
     let inv = l.invariant.2 in
     sym (rw none at inv)
 
-pub rows-spec : {M : Type 1} → statement M
-rows-spec =
-    tie.close
-    (tie.spec
-    invariant-loop
-    decreases-loop
-    loop-holds
-    mul-to
-    shared-slice-copy-out-to
-    mul-t8
-    slice-set-from-to
-    add-i
-    loop-less
-    loop-again
-    same_length
-    returns)
+pub rows_spec : {M : Type 1} → statement M
+rows_spec =
+    tie.close (tie.spec invariant-loop decreases-loop loop-holds mul-to shared-slice-copy-out-to mul-t8 slice-set-from-to add-i loop-less loop-again same_length returns)

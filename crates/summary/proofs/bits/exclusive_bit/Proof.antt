@@ -7,5 +7,6 @@ use Rattle.summary.proofs.bits.exclusive_bit.Tie as tie
 returns : tie.Need-returns
 returns c = exclusive-folded c.args.key _ _ refl refl
 
-pub exclusive-bit-spec : {M : Type 1} → statement M
-exclusive-bit-spec = tie.close (tie.spec returns)
+pub exclusive_bit_spec : {M : Type 1} → statement M
+exclusive_bit_spec =
+    tie.close (tie.spec returns)

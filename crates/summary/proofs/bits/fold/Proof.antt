@@ -6,10 +6,10 @@ use Rattle.summary.proofs.Folded.{folded}
 use Rattle.summary.proofs.bits.fold.Statement.{statement}
 use Rattle.summary.proofs.bits.fold.Tie as tie
 
-add-halves : tie.Need-overflow-add-halves
+add-halves : tie.Need-overflow_add-halves
 add-halves c = omega (arith, and_le_r c.args.lanes 0xffffffff)
 
-add-result : tie.Need-overflow-add-result
+add-result : tie.Need-overflow_add-result
 add-result c =
     let w = c.args.lanes in
     omega (arith, and_le_r w 0xffffffff, and_le_r (bit_and w 0xffffffff + w / 4294967296) 0xffff)
@@ -17,5 +17,6 @@ add-result c =
 returns : tie.Need-returns
 returns c = folded c.args.lanes
 
-pub fold-spec : {M : Type 1} → statement M
-fold-spec = tie.close (tie.spec add-halves add-result returns)
+pub fold_spec : {M : Type 1} → statement M
+fold_spec =
+    tie.close (tie.spec add-halves add-result returns)

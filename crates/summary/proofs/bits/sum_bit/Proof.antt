@@ -7,14 +7,15 @@ use Rattle.summary.proofs.Folded.{sum_folded}
 use Rattle.summary.proofs.bits.sum_bit.Statement.{statement}
 use Rattle.summary.proofs.bits.sum_bit.Tie as tie
 
-add-pairs : tie.Need-overflow-add-pairs
+add-pairs : tie.Need-overflow_add-pairs
 add-pairs c = let k = c.args.key in omega (arith, and_le_r k 0x00ff00ff00ff00ff, and_le_r (k / 256) 0x00ff00ff00ff00ff)
 
 fold-requires : tie.Need-fold-requires
 fold-requires c κs = search rules
 
 returns : tie.Need-returns
-returns c = sum_folded c.before.args.key c.fold.result c.fold.ensures
+returns c = sum_folded c.args.key c.fold.result c.fold.ensures
 
-pub sum-bit-spec : {M : Type 1} → statement M
-sum-bit-spec = tie.close (tie.spec add-pairs fold-requires returns)
+pub sum_bit_spec : {M : Type 1} → statement M
+sum_bit_spec =
+    tie.close (tie.spec add-pairs fold-requires returns)

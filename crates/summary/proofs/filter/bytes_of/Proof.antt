@@ -14,19 +14,19 @@ use Rattle.summary.proofs.Form.{bytes_back}
 use Rattle.summary.proofs.filter.bytes_of.Statement.{statement}
 use Rattle.summary.proofs.filter.bytes_of.Tie as tie
 
-slice-aggregate-all : tie.Need-slice-aggregate-all
+slice-aggregate-all : tie.Need-slice_bounds-all-end
 slice-aggregate-all c = search rules
 
-put-u64-requires : tie.Need-put-u64-requires
+put-u64-requires : tie.Need-put_u64-requires
 put-u64-requires c κs = search rules
 
-put-u64-requires-2 : tie.Need-put-u64-requires-2
+put-u64-requires-2 : tie.Need-put_u64-requires-2
 put-u64-requires-2 c κs = search rules
 
-put-u64-requires-3 : tie.Need-put-u64-requires-3
+put-u64-requires-3 : tie.Need-put_u64-requires-3
 put-u64-requires-3 c κs = search rules
 
-put-u64-requires-4 : tie.Need-put-u64-requires-4
+put-u64-requires-4 : tie.Need-put_u64-requires-4
 put-u64-requires-4 c κs = search rules
 
 -- Each word's bytes behind those before it.
@@ -53,30 +53,23 @@ below a b c d ha hb hc hd (suc (suc (suc (suc i)))) = omega arith
 
 returns : tie.Need-returns
 returns c =
-    let k4 = c.before in
-    let k3 = k4.before.before.before in
-    let k2 = k3.before.before.before.before in
-    let k1 = k2.before.before.before.before in
-    let s = k1.before.before.before in
+    let k4 = c in
+    let k3 = k4 in
+    let k2 = k3 in
+    let k1 = k2 in
+    let s = k1 in
     let a = s.args in
     let ws : List ℕ = a.first ∷ a.second ∷ a.third ∷ a.fourth ∷ [] in
-    let bytes : k4.put-u644.new.0 ≡ bytes_in ws =
-    k4.put-u644.ensures
-    ∙ ap (λ x. sets x 24 (bytes_of 8 a.fourth)) k3.put-u643.ensures
-    ∙ ap (λ x. sets (sets x 16 (bytes_of 8 a.third)) 24 (bytes_of 8 a.fourth)) k2.put-u642.ensures
-    ∙ ap (λ x. sets (sets (sets x 8 (bytes_of 8 a.second)) 16 (bytes_of 8 a.third)) 24 (bytes_of 8 a.fourth)) k1.put-u64.ensures
+    let bytes : k4.put_u64-4.new.s ≡ bytes_in ws =
+    k4.put_u64-4.ensures
+    ∙ ap (λ x. sets x 24 (bytes_of 8 a.fourth)) k3.put_u64-3.ensures
+    ∙ ap (λ x. sets (sets x 16 (bytes_of 8 a.third)) 24 (bytes_of 8 a.fourth)) k2.put_u64-2.ensures
+    ∙ ap (λ x. sets (sets (sets x 8 (bytes_of 8 a.second)) 16 (bytes_of 8 a.third)) 24 (bytes_of 8 a.fourth)) k1.put_u64.ensures
     ∙ stored _ a.first a.second a.third a.fourth (search rules) in
     let small : (i : ℕ) → get_or ws i 0 < 2 ^ 64 =
     below a.first a.second a.third a.fourth (omega (arith, s.ranges)) (omega (arith, s.ranges)) (omega (arith, s.ranges)) (omega (arith, s.ranges)) in
     (bytes, ap words_of bytes ∙ bytes_back ws refl small)
 
-pub bytes-of-spec : {M : Type 1} → statement M
-bytes-of-spec =
-    tie.close
-    (tie.spec
-    slice-aggregate-all
-    put-u64-requires
-    put-u64-requires-2
-    put-u64-requires-3
-    put-u64-requires-4
-    returns)
+pub bytes_of_spec : {M : Type 1} → statement M
+bytes_of_spec =
+    tie.close (tie.spec slice-aggregate-all put-u64-requires put-u64-requires-2 put-u64-requires-3 put-u64-requires-4 returns)

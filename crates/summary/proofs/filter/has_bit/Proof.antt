@@ -7,20 +7,21 @@ use Rattle.summary.proofs.Words.{bit-read}
 use Rattle.summary.proofs.filter.has_bit.Statement.{statement}
 use Rattle.summary.proofs.filter.has_bit.Tie as tie
 
-mul-word : tie.Need-overflow-mul-word
+mul-word : tie.Need-offset_bounds-words-n
 mul-word c = search rules
 
-shared-slice-read-word : tie.Need-shared-slice-read-word
+shared-slice-read-word : tie.Need-bounds-words-n
 shared-slice-read-word c = search rules
 
-shr-byte : tie.Need-overflow-shr-byte
-shr-byte c = lt_of_le_of_lt (and_le_r c.before.args.n _) (lit< tt)
+shr-byte : tie.Need-overflow_shr-byte
+shr-byte c = lt_of_le_of_lt (and_le_r c.args.n _) (lit< tt)
 
-shr-result : tie.Need-overflow-shr-result
-shr-result c = lt_of_le_of_lt (and_le_r c.before.args.n _) (lit< tt)
+shr-result : tie.Need-overflow_shr-result
+shr-result c = lt_of_le_of_lt (and_le_r c.args.n _) (lit< tt)
 
 returns : tie.Need-returns
-returns c = let a = c.before.args in bit-read a.words.now a.n
+returns c = let a = c.args in bit-read a.words.now a.n
 
-pub has-bit-spec : {M : Type 1} → statement M
-has-bit-spec = tie.close (tie.spec mul-word shared-slice-read-word shr-byte shr-result returns)
+pub has_bit_spec : {M : Type 1} → statement M
+has_bit_spec =
+    tie.close (tie.spec mul-word shared-slice-read-word shr-byte shr-result returns)

@@ -17,21 +17,22 @@ mask n =
     let within : 2 ^ bit_and n 7 < 2 ^ 8 = pow-lt {j = 8} (bit-place-below n) in
     ap (λ x. x % 256) (one-mul (2 ^ bit_and n 7)) ∙ mod-eq_of_lt within ∙ ap (λ x. 2 ^ x) (bit-place n)
 
-element-copy-out-s : tie.Need-element-copy-out-s
+element-copy-out-s : tie.Need-bounds-s-byte
 element-copy-out-s c = search rules
 
-cast-s : tie.Need-overflow-cast-s
-cast-s c = omega (arith, bit-place-below c.before.args.n)
+cast-s : tie.Need-overflow_cast-s
+cast-s c = omega (arith, bit-place-below c.args.n)
 
-shl-s : tie.Need-overflow-shl-s
-shl-s c = bit-place-below c.before.args.n
+shl-s : tie.Need-overflow_shl-s
+shl-s c = bit-place-below c.args.n
 
-element-write-s : tie.Need-element-write-s
+element-write-s : tie.Need-bounds-s-byte-2
 element-write-s c = search rules
 
 returns : tie.Need-returns
 unfolding with_bit
-returns c = rw (mask c.before.args.n)
+returns c = rw (mask c.args.n)
 
-pub set-bit-spec : {M : Type 1} → statement M
-set-bit-spec = tie.close (tie.spec element-copy-out-s cast-s shl-s element-write-s returns)
+pub set_bit_spec : {M : Type 1} → statement M
+set_bit_spec =
+    tie.close (tie.spec element-copy-out-s cast-s shl-s element-write-s returns)

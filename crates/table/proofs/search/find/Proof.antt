@@ -40,45 +40,36 @@ module _ (s : List ℕ) (key : ℕ) (m : is_memory s ≡ true) (sought : Found) 
     misses p = sym (answer ∙ rw p)
 
 seek-requires : tie.Need-seek-requires
-seek-requires c κs = c.before.requires
+seek-requires c κs = c.requires
 
-enum-known-at : tie.Need-enum-known-at
+enum-known-at : tie.Need-enum_known-at
 enum-known-at c = search rules
 
-enum_told : tie.Need-enum-told
+enum_told : tie.Need-enum_told-1
 enum_told c = search rules
 
-returns : tie.Need-returns
-returns c = nowhere _ _ c.before.before.before.before.requires.1 _ c.before.before.seek.ensures c.enum_told.given.1
+returns : tie.Need-returns-in_default
+returns c = nowhere _ _ c.requires.1 _ c.seek.ensures c.in_default.is
 
-key-at-requires : tie.Need-key-at-requires
+key-at-requires : tie.Need-key_at-requires
 key-at-requires c κs =
-    let b = c.before.before.before.before.before in
-    let found = sym c.before.before.before.seek.ensures ∙ c.before.at.given.1 in
-    head-within _ _ b.requires.0 (seek-stands b.args.s.now b.requires.1 b.args.key.value c.before.at.given.0.0 found).0
+    let b = c in
+    let found = sym c.seek.ensures ∙ c.in-At.is in
+    head-within _ _ b.requires.0 (seek-stands b.args.s.now b.requires.1 b.args.key.value c.in-At.at found).0
 
 same-requires : tie.Need-same-requires
 same-requires c κs = tt
 
-returns-2 : tie.Need-returns-2
+returns-2 : tie.Need-returns-then-same
 returns-2 c =
-    let d = c.before.before.before in
-    hits _ _ d.before.before.before.before.before.requires.1 _ d.before.before.before.seek.ensures _ _ _ d.before.at.given.1 c.before.before.key-at.ensures c.before.same.ensures c.if1.true
+    let d = c in
+    hits _ _ d.requires.1 _ d.seek.ensures _ _ _ d.in-At.is c.key_at.ensures c.same.ensures c.if-same.true
 
-returns-3 : tie.Need-returns-3
+returns-3 : tie.Need-returns-else-same
 returns-3 c =
-    let d = c.before.before.before in
-    misses _ _ d.before.before.before.before.before.requires.1 _ d.before.before.before.seek.ensures _ _ _ d.before.at.given.1 c.before.before.key-at.ensures c.before.same.ensures c.if1.false
+    let d = c in
+    misses _ _ d.requires.1 _ d.seek.ensures _ _ _ d.in-At.is c.key_at.ensures c.same.ensures c.if-same.false
 
 pub find_spec : {M : Type 1} → statement M
 find_spec =
-    tie.close
-    (tie.spec
-    seek-requires
-    enum-known-at
-    enum_told
-    returns
-    key-at-requires
-    same-requires
-    returns-2
-    returns-3)
+    tie.close (tie.spec seek-requires enum-known-at enum_told returns key-at-requires same-requires returns-2 returns-3)

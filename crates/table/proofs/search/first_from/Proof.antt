@@ -14,96 +14,81 @@ use Rattle.table.proofs.Turn.{below-turn, below_end}
 use Rattle.table.proofs.search.first_from.Statement.{statement}
 use Rattle.table.proofs.search.first_from.Tie as tie
 
-abbrev invariant-loop : tie.invariant-loop
+abbrev invariant-loop : tie.invariant-loop-i
 invariant-loop s key n i₀ at₀ i at =
     (i ≤ n) × (n ≡ count_of s) × (at ≡ position_in i s) × (count_below key.value (entries s) ≡ i + count_below key.value (entries_at (n - i) s at))
 
-abbrev decreases-loop : tie.decreases-loop
+abbrev decreases-loop : tie.decreases-loop-i
 decreases-loop s key n i₀ at₀ i at = n - i
 
-count-requires : tie.Need-count-requires invariant-loop decreases-loop
-count-requires c κs = c.before.requires.0
+count-requires : tie.Need-count-n-requires invariant-loop decreases-loop
+count-requires c κs = c.requires.0
 
-loop-holds : tie.Need-loop-init invariant-loop decreases-loop
+loop-holds : tie.Need-loop-i-init invariant-loop decreases-loop
 unfolding entries
 loop-holds c =
-    let a = c.before.before.args in
-    (omega arith, c.count.ensures, sym (position_first a.s.now), rw (sub-zero, c.count.ensures, zero-add))
+    let a = c.args in
+    (omega arith, c.count-n.ensures, sym (position_first a.s.now), rw (sub-zero, c.count-n.ensures, zero-add))
 
-here : (c : tie.In-loop invariant-loop decreases-loop)
-    → Stands c.before.before.before.before.args.s.now c.before.loop.at
+here : (c : tie.In-loop-i invariant-loop decreases-loop)
+    → Stands c.args.s.now c.loop-i.at
 here c =
-    let b = c.before.before.before.before in
-    let l = c.before.loop in
+    let b = c in
+    let l = c.loop-i in
     rw l.invariant.2 (stands b.args.s.now b.requires.1 l.i (omega arith))
 
-key-at-requires : tie.Need-key-at-requires invariant-loop decreases-loop
+key-at-requires : tie.Need-key_at-requires invariant-loop decreases-loop
 key-at-requires c κs = omega (arith, here c)
 
-at-most-requires : tie.Need-at-most-requires invariant-loop decreases-loop
+at-most-requires : tie.Need-at_most-requires invariant-loop decreases-loop
 at-most-requires c κs = search rules
 
-turned : (c : tie.After-at-most invariant-loop decreases-loop)
-    → let l = c.before.before.before.loop in
-    let a = c.before.before.before.before.before.before.args in
+turned : (c : tie.After-at_most invariant-loop decreases-loop)
+    → let l = c.loop-i in
+    let a = c.args in
     count_below a.key.value (entries a.s.now)
-    ≡ l.i + cond c.at_most.result 0 (suc (count_below a.key.value (entries_at (c.before.before.before.before.count.result - (l.i + 1)) a.s.now (l.at + length_at a.s.now l.at))))
+    ≡ l.i + cond c.at_most.result 0 (suc (count_below a.key.value (entries_at (c.count-n.result - (l.i + 1)) a.s.now (l.at + length_at a.s.now l.at))))
 turned c =
-    let l = c.before.before.before.loop in
-    let a = c.before.before.before.before.before.before.args in
-    cc (l.invariant.3, below-turn a.key.value c.before.before.before.before.count.result l.i a.s.now l.at (omega arith))
+    let l = c.loop-i in
+    let a = c.args in
+    cc (l.invariant.3, below-turn a.key.value c.count-n.result l.i a.s.now l.at (omega arith))
 
-returns : tie.Need-returns invariant-loop decreases-loop
+returns : tie.Need-returns-then-at_most invariant-loop decreases-loop
 returns c =
-    let l = c.before.before.before.before.loop in
-    let t = rw c.if1.true at (turned c.before) in
+    let l = c.loop-i in
+    let t = rw c.if-at_most.true at (turned c.before) in
     (omega arith, l.invariant.2)
 
-length-at-requires : tie.Need-length-at-requires invariant-loop decreases-loop
+length-at-requires : tie.Need-length_at-requires invariant-loop decreases-loop
 length-at-requires c κs = omega (arith, here c.before.before.before)
 
-cast-at : tie.Need-overflow-cast-at invariant-loop decreases-loop
+cast-at : tie.Need-overflow_cast-at invariant-loop decreases-loop
 cast-at c = search rules
 
-add_at : tie.Need-overflow-add-at invariant-loop decreases-loop
-add_at c = omega (arith, here c.before.before.before.before, c.length-at.ensures)
+add_at : tie.Need-overflow_add-at invariant-loop decreases-loop
+add_at c = omega (arith, here c.before.before.before.before, c.length_at.ensures)
 
-add-i : tie.Need-overflow-add-i invariant-loop decreases-loop
+add-i : tie.Need-overflow_add-i invariant-loop decreases-loop
 add-i c = omega arith
 
-loop-less : tie.Need-loop-smaller invariant-loop decreases-loop
+loop-less : tie.Need-loop-i-smaller invariant-loop decreases-loop
 loop-less c = omega arith
 
-loop-again : tie.Need-loop-preserved invariant-loop decreases-loop
+loop-again : tie.Need-loop-i-preserved invariant-loop decreases-loop
 loop-again c =
-    let l = c.before.before.before.before.before.loop in
-    let b = c.before.before.before.before.before.before.before.before in
+    let l = c.loop-i in
+    let b = c in
     let step = position-step b.args.s.now l.i in
-    let t = rw c.before.if1.false at (turned c.before.before) in
-    let e = c.length-at.ensures in
+    let t = rw c.if-at_most.false at (turned c.before.before) in
+    let e = c.length_at.ensures in
     (omega arith, l.invariant.1, cc step, t ∙ rw e (omega arith))
 
-returns-2 : tie.Need-returns-2 invariant-loop decreases-loop
+returns-2 : tie.Need-returns invariant-loop decreases-loop
 returns-2 c =
-    let l = c.before.loop in
-    let e = below_end c.before.before.before.before.args.key.value c.before.before.count.result l.i c.before.before.before.before.args.s.now l.at (omega arith) in
+    let l = c.loop-i in
+    let e = below_end c.args.key.value c.count-n.result l.i c.args.s.now l.at (omega arith) in
     (omega arith, l.invariant.2)
 
-pub first-from-spec : {M : Type 1} → statement M
-first-from-spec =
-    tie.close
-    (tie.spec
-    invariant-loop
-    decreases-loop
-    count-requires
-    loop-holds
-    key-at-requires
-    at-most-requires
-    returns
-    length-at-requires
-    cast-at
-    add_at
-    add-i
-    loop-less
-    loop-again
-    returns-2)
+pub first_from_spec : {M : Type 1} → statement M
+first_from_spec =
+    tie.close (tie.spec invariant-loop decreases-loop count-requires loop-holds key-at-requires at-most-requires returns length-at-requires cast-at add_at add-i loop-less loop-again returns-2)

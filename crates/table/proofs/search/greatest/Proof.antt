@@ -31,25 +31,26 @@ module _ (s : List ℕ) (n : ℕ) (t : is_table s ≡ true) (e : n ≡ count_of 
     greatest key k = cc (greatest-at s t)
 
 count-requires : tie.Need-count-requires
-count-requires c κs = c.before.requires.0
+count-requires c κs = c.requires.0
 
-sub-nth : tie.Need-overflow-sub-nth
-sub-nth c = some _ _ c.before.before.requires.1 c.count.ensures
+sub-nth : tie.Need-overflow_sub-count
+sub-nth c = some _ _ c.requires.1 c.count.ensures
 
-nth-requires : tie.Need-nth-requires
+nth-requires : tie.Need-nth-at-requires
 nth-requires c κs =
-    let b = c.before.before in
+    let b = c in
     ((b.requires.0, table-memory b.args.s.now b.requires.1), last _ _ b.requires.1 c.count.ensures)
 
-key-at-requires : tie.Need-key-at-requires
+key-at-requires : tie.Need-key_at-requires
 key-at-requires c κs =
-    let b = c.before.before.before in
-    within _ _ b.requires.1 c.before.count.ensures _ c.nth.ensures b.requires.0
+    let b = c in
+    within _ _ b.requires.1 c.count.ensures _ c.nth-at.ensures b.requires.0
 
 returns : tie.Need-returns
 returns c =
-    let b = c.before.before.before.before in
-    greatest _ _ b.requires.1 c.before.before.count.ensures _ c.before.nth.ensures _ c.key-at.ensures
+    let b = c in
+    greatest _ _ b.requires.1 c.count.ensures _ c.nth-at.ensures _ c.key_at.ensures
 
-pub greatest-spec : {M : Type 1} → statement M
-greatest-spec = tie.close (tie.spec count-requires sub-nth nth-requires key-at-requires returns)
+pub greatest_spec : {M : Type 1} → statement M
+greatest_spec =
+    tie.close (tie.spec count-requires sub-nth nth-requires key-at-requires returns)

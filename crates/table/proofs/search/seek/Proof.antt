@@ -19,17 +19,18 @@ module _ (s : List ℕ) (key i at n : ℕ) (hi : i ≡ count_below key (entries 
   ended : n ≤ i → Nothing ≡ seek_in s key
   ended h = sym (seek-below s key ∙ rw (← hi, ← hn, le-ltb i n h))
 
-first-from-requires : tie.Need-first-from-requires
+first-from-requires : tie.Need-first_from-first-requires
 first-from-requires c κs = search rules
 
 count-requires : tie.Need-count-requires
 count-requires c κs = search rules
 
-returns : tie.Need-returns
-returns c = found _ _ _ _ _ c.before.before.before.first-from.ensures.0 c.before.before.before.first-from.ensures.1 c.before.before.count.ensures c.if1.true
+returns : tie.Need-returns-then-first-count
+returns c = found _ _ _ _ _ c.first_from-first.ensures.0 c.first_from-first.ensures.1 c.count.ensures c.if-first-count.true
 
-returns-2 : tie.Need-returns-2
-returns-2 c = ended _ _ _ _ _ c.before.before.before.first-from.ensures.0 c.before.before.before.first-from.ensures.1 c.before.before.count.ensures c.if1.false
+returns-2 : tie.Need-returns-else-first-count
+returns-2 c = ended _ _ _ _ _ c.first_from-first.ensures.0 c.first_from-first.ensures.1 c.count.ensures c.if-first-count.false
 
-pub seek-spec : {M : Type 1} → statement M
-seek-spec = tie.close (tie.spec first-from-requires count-requires returns returns-2)
+pub seek_spec : {M : Type 1} → statement M
+seek_spec =
+    tie.close (tie.spec first-from-requires count-requires returns returns-2)

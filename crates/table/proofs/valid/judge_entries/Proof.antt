@@ -3,7 +3,7 @@
 -- within the place.
 -- Each fact is shown over plain numbers and lists first, so that no tactic has to read the records of the whole walk.
 use Prim.Native.Nat.{ℕ, ◌+◌, ◌*◌, ◌-◌, ◌≤◌, ◌<◌, zero-le}
-use mathlib.Core.Path.{◌≡◌, sym, ◌∙◌}
+use mathlib.Core.Path.{◌≡◌, sym, ◌∙◌, ap}
 use mathlib.Core.Bool.{Bool, true, false, not, ◌&&◌, ◌||◌, false≢true}
 use mathlib.Core.List.{List}
 use native.Mathlib.Omega.{arith}
@@ -22,13 +22,13 @@ use Rattle.table.proofs.Turn.{least_after, good_turn, last_after, greatest-last,
 use Rattle.table.proofs.valid.judge_entries.Statement.{statement}
 use Rattle.table.proofs.valid.judge_entries.Tie as tie
 
-abbrev invariant-loop : tie.invariant-loop
+abbrev invariant-loop : tie.invariant-loop-i
 invariant-loop s n end i₀ at₀ last₀ i at last =
     (i ≤ n) × (at ≤ table_head + entry_limit * i)
     × (entries_good n s table_head 0 end ≡ entries_good (n - i) s at (least_after i last.value) end)
     × (greatest_key (entries_at n s table_head) ≡ last_after last.value (entries_at (n - i) s at))
 
-abbrev decreases-loop : tie.decreases-loop
+abbrev decreases-loop : tie.decreases-loop-i
 decreases-loop s n end i₀ at₀ last₀ i at last = n - i
 
 -- The first 16 entries start where an entry's head can be read.
@@ -91,118 +91,101 @@ module _ (s : List ℕ) (n i at last end len kind : ℕ) (whole form : Bool) (h 
     next_last : (most : ℕ) → most ≡ last_after last (entries_at (n - i) s at) → most ≡ last_after key (entries_at (n - (i + 1)) s (at + len))
     next_last most g = cc (last_turn n i s at last h)
 
-loop-holds : tie.Need-loop-init invariant-loop decreases-loop
+loop-holds : tie.Need-loop-i-init invariant-loop decreases-loop
 loop-holds c =
-    let a = c.before.args in
+    let a = c.args in
     (zero-le, le_refl _, all_left a.s.now a.n a.end, last-left a.s.now a.n)
 
-length-at-requires : tie.Need-length-at-requires invariant-loop decreases-loop
+length-at-requires : tie.Need-length_at-len-requires invariant-loop decreases-loop
 length-at-requires c κs =
-    let b = c.before.before.before in
-    length-within _ _ _ _ b.requires.0 b.requires.1 c.loop-test.true c.before.loop.invariant.1
+    let b = c in
+    length-within _ _ _ _ b.requires.0 b.requires.1 c.loop-i-test.true c.loop-i.invariant.1
 
-cast-len : tie.Need-overflow-cast-len invariant-loop decreases-loop
-cast-len c = wide c.length-at.type-inv
+cast-len : tie.Need-overflow_cast-len invariant-loop decreases-loop
+cast-len c = wide c.length_at-len.type_inv
 
-kind-at-requires : tie.Need-kind-at-requires invariant-loop decreases-loop
+kind-at-requires : tie.Need-kind_at-requires invariant-loop decreases-loop
 kind-at-requires c κs =
-    let d = c.before in
-    let b = d.before.before.before in
-    kind-within _ _ _ _ b.requires.0 b.requires.1 d.loop-test.true d.before.loop.invariant.1
+    let d = c in
+    let b = d in
+    kind-within _ _ _ _ b.requires.0 b.requires.1 d.loop-i-test.true d.loop-i.invariant.1
 
-entry-form-requires : tie.Need-entry-form-requires invariant-loop decreases-loop
+entry-form-requires : tie.Need-entry_form-requires invariant-loop decreases-loop
 entry-form-requires c κs = tt
 
-returns : tie.Need-returns invariant-loop decreases-loop
+returns : tie.Need-returns-then-not-entry_form invariant-loop decreases-loop
 returns c =
-    let b = c.before in
-    let d = b.before.before.before in (
-      unformed _ _ _ _ _ _ _ _ _ _ d.loop-test.true d.before.loop.invariant.2
-          b.before.before.length-at.ensures b.before.kind_at.ensures b.entry-form.ensures c.if1.true,
+    let b = c in
+    let d = b in (
+      unformed _ _ _ _ _ _ _ _ _ _ d.loop-i-test.true d.loop-i.invariant.2
+          b.length_at-len.ensures b.kind_at.ensures b.entry_form.ensures (ap not c.if-not-entry_form.true),
       λ e. absurd (false≢true e),
     )
 
-key-at-requires : tie.Need-key-at-requires invariant-loop decreases-loop
+key-at-requires : tie.Need-key_at-key-requires invariant-loop decreases-loop
 key-at-requires c κs =
-    let d = c.before.before.before.before in
-    let b = d.before.before.before in
-    head-within _ _ _ _ b.requires.0 b.requires.1 d.loop-test.true d.before.loop.invariant.1
+    let d = c in
+    let b = d in
+    head-within _ _ _ _ b.requires.0 b.requires.1 d.loop-i-test.true d.loop-i.invariant.1
 
 below-requires : tie.Need-below-requires invariant-loop decreases-loop
 below-requires c κs = tt
 
-returns-2 : tie.Need-returns-2 invariant-loop decreases-loop
+returns-2 : tie.Need-returns-then-not-rises invariant-loop decreases-loop
 returns-2 c =
-    let b = c.before.before.before.before in
-    let d = b.before.before.before in (
-      falls _ _ _ _ _ _ _ _ _ _ d.loop-test.true d.before.loop.invariant.2
-          b.before.before.length-at.ensures b.before.kind_at.ensures b.entry-form.ensures
-          _ _ c.before.before.before.if1.false c.before.before.key-at.ensures c.before.below.ensures c.if2.true,
+    let b = c in
+    let d = b in (
+      falls _ _ _ _ _ _ _ _ _ _ d.loop-i-test.true d.loop-i.invariant.2
+          b.length_at-len.ensures b.kind_at.ensures b.entry_form.ensures
+          _ _ (ap not c.if-not-entry_form.false) c.key_at-key.ensures c.below.ensures (ap not c.if-not-rises.true),
       λ e. absurd (false≢true e),
     )
 
 -- The entry just judged is short.
-just-short : (c : tie.Else2 invariant-loop decreases-loop) → c.before.before.before.before.before.before.length-at.result ≤ entry_limit
+just-short : (c : tie.Else-not-rises invariant-loop decreases-loop) → c.length_at-len.result ≤ entry_limit
 just-short c =
-    let b = c.before.before.before.before in
-    let d = b.before.before.before in
-    short _ _ _ _ _ _ _ _ _ _ d.loop-test.true d.before.loop.invariant.2
-    b.before.before.length-at.ensures b.before.kind_at.ensures b.entry-form.ensures c.before.before.before.if1.false
+    let b = c in
+    let d = b in
+    short _ _ _ _ _ _ _ _ _ _ d.loop-i-test.true d.loop-i.invariant.2
+    b.length_at-len.ensures b.kind_at.ensures b.entry_form.ensures (ap not c.if-not-entry_form.false)
 
-add_at : tie.Need-overflow-add-at invariant-loop decreases-loop
+add_at : tie.Need-overflow_add-at invariant-loop decreases-loop
 add_at c =
-    let d = c.before.before.before.before.before.before.before in
-    let b = d.before.before.before in
-    next_fits _ _ _ _ b.requires.0 b.requires.1 d.loop-test.true d.before.loop.invariant.1 _ (just-short c)
+    let d = c in
+    let b = d in
+    next_fits _ _ _ _ b.requires.0 b.requires.1 d.loop-i-test.true d.loop-i.invariant.1 _ (just-short c)
 
-add-i : tie.Need-overflow-add-i invariant-loop decreases-loop
+add-i : tie.Need-overflow_add-i invariant-loop decreases-loop
 add-i c =
-    let d = c.before.before.before.before.before.before.before in
-    one_more _ _ d.loop-test.true d.before.before.before.ranges.n.fits
+    let d = c in
+    one_more _ _ d.loop-i-test.true d.ranges.n.fits
 
-loop-less : tie.Need-loop-smaller invariant-loop decreases-loop
-loop-less c = one_less _ _ c.before.before.before.before.before.before.before.loop-test.true
+loop-less : tie.Need-loop-i-smaller invariant-loop decreases-loop
+loop-less c = one_less _ _ c.loop-i-test.true
 
-loop-again : tie.Need-loop-preserved invariant-loop decreases-loop
+loop-again : tie.Need-loop-i-preserved invariant-loop decreases-loop
 loop-again c =
-    let b = c.before.before.before.before in
-    let d = b.before.before.before in
-    let p = d.before.before.before in (
-      up-to _ _ d.loop-test.true,
-      next-near _ _ _ _ p.requires.0 p.requires.1 d.loop-test.true d.before.loop.invariant.1 _ (just-short c),
-      rises _ _ _ _ _ _ _ _ _ _ d.loop-test.true d.before.loop.invariant.2
-          b.before.before.length-at.ensures b.before.kind_at.ensures b.entry-form.ensures
-          _ _ c.before.before.before.if1.false c.before.before.key-at.ensures c.before.below.ensures c.if2.false,
-      next_last _ _ _ _ _ _ _ _ _ _ d.loop-test.true d.before.loop.invariant.2
-          b.before.before.length-at.ensures b.before.kind_at.ensures b.entry-form.ensures
-          _ _ c.before.before.before.if1.false c.before.before.key-at.ensures c.before.below.ensures
-          _ d.before.loop.invariant.3,
+    let b = c in
+    let d = b in
+    let p = d in (
+      up-to _ _ d.loop-i-test.true,
+      next-near _ _ _ _ p.requires.0 p.requires.1 d.loop-i-test.true d.loop-i.invariant.1 _ (just-short c),
+      rises _ _ _ _ _ _ _ _ _ _ d.loop-i-test.true d.loop-i.invariant.2
+          b.length_at-len.ensures b.kind_at.ensures b.entry_form.ensures
+          _ _ (ap not c.if-not-entry_form.false) c.key_at-key.ensures c.below.ensures (ap not c.if-not-rises.false),
+      next_last _ _ _ _ _ _ _ _ _ _ d.loop-i-test.true d.loop-i.invariant.2
+          b.length_at-len.ensures b.kind_at.ensures b.entry_form.ensures
+          _ _ (ap not c.if-not-entry_form.false) c.key_at-key.ensures c.below.ensures
+          _ d.loop-i.invariant.3,
     )
 
-returns-3 : tie.Need-returns-3 invariant-loop decreases-loop
+returns-3 : tie.Need-returns invariant-loop decreases-loop
 returns-3 c =
-    let l = c.before.loop in (
-      ended _ _ _ _ _ _ _ c.loop-test.false l.invariant.2,
-      λ _. sym (l.invariant.3 ∙ last_end _ _ _ _ _ c.loop-test.false),
+    let l = c.loop-i in (
+      ended _ _ _ _ _ _ _ c.loop-i-test.false l.invariant.2,
+      λ _. sym (l.invariant.3 ∙ last_end _ _ _ _ _ c.loop-i-test.false),
     )
 
-pub judge-entries-spec : {M : Type 1} → statement M
-judge-entries-spec =
-    tie.close
-    (tie.spec
-    invariant-loop
-    decreases-loop
-    loop-holds
-    length-at-requires
-    cast-len
-    kind-at-requires
-    entry-form-requires
-    returns
-    key-at-requires
-    below-requires
-    returns-2
-    add_at
-    add-i
-    loop-less
-    loop-again
-    returns-3)
+pub judge_entries_spec : {M : Type 1} → statement M
+judge_entries_spec =
+    tie.close (tie.spec invariant-loop decreases-loop loop-holds length-at-requires cast-len kind-at-requires entry-form-requires returns key-at-requires below-requires returns-2 add_at add-i loop-less loop-again returns-3)

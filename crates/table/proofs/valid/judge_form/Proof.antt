@@ -47,61 +47,51 @@ module _ (s : List ℕ) (fewest end kind n pad : ℕ)
   refused : Head fewest kind n pad ≡ false → false ≡ table_good fewest s
   refused h = let t = rw h at whole in sym t
 
-length-at-requires : tie.Need-length-at-requires
-length-at-requires c κs = in_place _ _ (lit≤ tt) c.before.requires
+length-at-requires : tie.Need-length_at-end-requires
+length-at-requires c κs = in_place _ _ (lit≤ tt) c.requires
 
-cast-end : tie.Need-overflow-cast-end
-cast-end c = wide c.length-at.type-inv
+cast-end : tie.Need-overflow_cast-end
+cast-end c = wide c.length_at-end.type_inv
 
-kind-at-requires : tie.Need-kind-at-requires
-kind-at-requires c κs = in_place _ _ (lit≤ tt) c.before.before.requires
+kind-at-requires : tie.Need-kind_at-kind-requires
+kind-at-requires c κs = in_place _ _ (lit≤ tt) c.requires
 
-count-requires : tie.Need-count-requires
-count-requires c κs = c.before.before.before.requires
+count-requires : tie.Need-count-n-requires
+count-requires c κs = c.requires
 
-get-u16-requires : tie.Need-get-u16-requires
-get-u16-requires c κs = in_place _ _ (lit≤ tt) c.before.before.before.before.requires
+get-u16-requires : tie.Need-get_u16-zero-requires
+get-u16-requires c κs = in_place _ _ (lit≤ tt) c.requires
 
-judge-entries-requires : tie.Need-judge-entries-requires
+judge-entries-requires : tie.Need-judge_entries-judged-requires
 judge-entries-requires c κs =
-    let d = c.before in
-    let b = d.before.before.before.before.before in
-    (b.requires, few b.args.fewest d.before.before.kind_at.result d.before.count.result d.get-u16.result c.if1.true)
+    let d = c in
+    let b = d in
+    (b.requires, few b.args.fewest d.kind_at-kind.result d.count-n.result d.get_u16-zero.result c.if-kind-fewest.true)
 
-rest-zero-requires : tie.Need-rest-zero-requires
+rest-zero-requires : tie.Need-rest_zero-requires
 rest-zero-requires c κs = tt
 
-returns : tie.Need-returns
+returns : tie.Need-returns-then-kind-fewest
 returns c =
-    let j = c.before.before.before in
-    let d = j.before.before in
-    let e = d.before.before.before.length-at.ensures in
-    let k = d.before.before.kind_at.ensures in
-    let n = d.before.count.ensures in
-    let z = d.get-u16.ensures in
-    let fewest = d.before.before.before.before.before.args.fewest in (
-      judged _ _ _ _ _ _ e k n z _ _ j.before.if1.true j.judge-entries.ensures.0 c.before.rest-zero.ensures,
-      most _ fewest _ _ _ _ e k n z _ _ _ j.judge-entries.ensures.1,
+    let j = c in
+    let d = j in
+    let e = d.length_at-end.ensures in
+    let k = d.kind_at-kind.ensures in
+    let n = d.count-n.ensures in
+    let z = d.get_u16-zero.ensures in
+    let fewest = d.args.fewest in (
+      judged _ _ _ _ _ _ e k n z _ _ j.if-kind-fewest.true j.judge_entries-judged.ensures.0 c.rest_zero.ensures,
+      most _ fewest _ _ _ _ e k n z _ _ _ j.judge_entries-judged.ensures.1,
     )
 
-returns-2 : tie.Need-returns-2
+returns-2 : tie.Need-returns
 returns-2 c =
-    let d = c.before in (
-      refused _ _ _ _ _ _ d.before.before.before.length-at.ensures d.before.before.kind_at.ensures d.before.count.ensures
-          d.get-u16.ensures c.if1.false,
+    let d = c in (
+      refused _ _ _ _ _ _ d.length_at-end.ensures d.kind_at-kind.ensures d.count-n.ensures
+          d.get_u16-zero.ensures c.if-kind-fewest.false,
       λ e. absurd (false≢true e),
     )
 
-pub judge-form-spec : {M : Type 1} → statement M
-judge-form-spec =
-    tie.close
-    (tie.spec
-    length-at-requires
-    cast-end
-    kind-at-requires
-    count-requires
-    get-u16-requires
-    judge-entries-requires
-    rest-zero-requires
-    returns
-    returns-2)
+pub judge_form_spec : {M : Type 1} → statement M
+judge_form_spec =
+    tie.close (tie.spec length-at-requires cast-end kind-at-requires count-requires get-u16-requires judge-entries-requires rest-zero-requires returns returns-2)

@@ -42,89 +42,75 @@ module _ (s : List ℕ) (kind : ℕ) (v : List ℕ) (p : Appends s kind v) where
   written key l n s1 s2 s3 el en e1 e2 e3 = cc (append-written s kind key v p.form)
 
 -- The start of the walk, from each of the calls.
-abbrev start : tie.After-put-entry-arg → tie.Start
-start c = c.before.before.before.before.before.before.before
+abbrev start : tie.After-put_entry-arg-1 → tie.Start
+start c = c.before.before.before.before.before
 
-abbrev start-2 : tie.After-put-u16-arg → tie.Start
+abbrev start-2 : tie.After-put_u16-arg-1 → tie.Start
 start-2 c = start c.before.before.before.before
 
-abbrev start-3 : tie.After-put-u16-arg2 → tie.Start
+abbrev start-3 : tie.After-put_u16-arg-2-1 → tie.Start
 start-3 c = start-2 c.before.before.before.before
 
 -- No call changes the length.
-kept : (c : tie.After-put-entry) → length c.put-entry.new.0 ≡ length (start c.before).args.s.now
-kept c = c.put-entry.auto.0
+kept : (c : tie.After-put_entry) → length c.put_entry.new.s ≡ length (start c.before).args.s.now
+kept c = c.put_entry.auto.s
 
-kept-2 : (c : tie.After-put-u16) → length c.put-u16.new.0 ≡ length (start-2 c.before).args.s.now
-kept-2 c = c.put-u16.auto.0 ∙ kept c.before.before.before.before
+kept-2 : (c : tie.After-put_u16) → length c.put_u16.new.s ≡ length (start-2 c.before).args.s.now
+kept-2 c = c.put_u16.auto.s ∙ kept c.before.before.before.before
 
-length-at-requires : tie.Need-length-at-requires
-length-at-requires c κs = in_place _ _ (lit≤ tt) c.before.before.before.requires.place
+length-at-requires : tie.Need-length_at-end-requires
+length-at-requires c κs = in_place _ _ (lit≤ tt) c.requires.place
 
-cast-end : tie.Need-overflow-cast-end
-cast-end c = wide c.length-at.type-inv
+cast-end : tie.Need-overflow_cast-end
+cast-end c = wide c.length_at-end.type_inv
 
-count-requires : tie.Need-count-requires
-count-requires c κs = c.before.before.before.before.before.requires.place
+count-requires : tie.Need-count-n-requires
+count-requires c κs = c.requires.place
 
-put-entry-requires : tie.Need-put-entry-requires
+put-entry-requires : tie.Need-put_entry-requires
 put-entry-requires c κs =
-    ((start c).requires.form, room_at _ _ _ (start c).requires _ _ c.before.before.before.length-at.ensures refl)
+    ((start c).requires.form, room_at _ _ _ (start c).requires _ _ c.length_at-end.ensures refl)
 
 -- What the two reads gave.
-end_read : (c : tie.After-put-u16-arg) → c.before.before.before.before.before.before.before.length-at.result ≡ length_at (start-2 c).args.s.now 0
-end_read c = c.before.before.before.before.before.before.before.length-at.ensures
+end_read : (c : tie.After-put_u16-arg-1) → c.length_at-end.result ≡ length_at (start-2 c).args.s.now 0
+end_read c = c.length_at-end.ensures
 
-count-read : (c : tie.After-put-u16-arg2) → c.before.before.before.before.before.before.before.before.before.count.result ≡ count_of (start-3 c).args.s.now
-count-read c = c.before.before.before.before.before.before.before.before.before.count.ensures
+count-read : (c : tie.After-put_u16-arg-2-1) → c.count-n.result ≡ count_of (start-3 c).args.s.now
+count-read c = c.count-n.ensures
 
-add-put-u16 : tie.Need-overflow-add-put-u16
+add-put-u16 : tie.Need-overflow_add-end
 add-put-u16 c = value-at _ _ _ (start-2 c).requires _ _ (end_read c) (lit≤ tt)
 
-add-put-u16-2 : tie.Need-overflow-add-put-u16-2
+add-put-u16-2 : tie.Need-overflow_add-end-2
 add-put-u16-2 c = Fits-16_64 (new-end _ _ _ (start-2 c).requires _ _ (end_read c) (lit≤ tt))
 
-cast-put-u16 : tie.Need-overflow-cast-put-u16
+cast-put-u16 : tie.Need-overflow_cast-end-2
 cast-put-u16 c = new-end _ _ _ (start-2 c).requires _ _ (end_read c) (lit≤ tt)
 
-put-u16-requires : tie.Need-put-u16-requires
+put-u16-requires : tie.Need-put_u16-requires
 put-u16-requires c κs = in_place _ _ (lit≤ tt) (kept c.before.before.before ∙ (start-2 c).requires.place)
 
-add-put-u16-3 : tie.Need-overflow-add-put-u16-3
+add-put-u16-3 : tie.Need-overflow_add-n
 add-put-u16-3 c = Fits-16_64 (new-count _ _ _ (start-3 c).requires _ _ (count-read c) (lit≤ tt))
 
-cast-put-u16-2 : tie.Need-overflow-cast-put-u16-2
+cast-put-u16-2 : tie.Need-overflow_cast-n
 cast-put-u16-2 c = new-count _ _ _ (start-3 c).requires _ _ (count-read c) (lit≤ tt)
 
-put-u16-requires-2 : tie.Need-put-u16-requires-2
+put-u16-requires-2 : tie.Need-put_u16-requires-2
 put-u16-requires-2 c κs = in_place _ _ (lit≤ tt) (kept-2 c.before.before.before ∙ (start-3 c).requires.place)
 
-same_length : tie.Need-same-length
-same_length c = c.before.before.put-u162.auto.0 ∙ kept-2 c.before.before.before.before.before.before
+same_length : tie.Need-shape_of-s
+same_length c = c.put_u16-2.auto.s ∙ kept-2 c.before.before.before.before.before.before
 
 returns : tie.Need-returns
 returns c =
-    let c3 = c.before.before in
-    let c2 = c3.before.before.before.before in
-    let c1 = c2.before.before.before.before in
-    let b = start c1.before in
-    written b.args.s.now b.args.kind b.args.value.now b.pre b.args.key.value _ _ _ _ _
-    (end_read c2.before) (count-read c3.before) c1.put-entry.ensures c2.put-u16.ensures c3.put-u162.ensures
+    let c3 = c in
+    let c2 = c3 in
+    let c1 = c2 in
+    let b = start c1.before.before.before.before.before.before.before.before.before.before.before in
+    written b.args.s.now b.args.kind b.args.value.now b.requires b.args.key.value _ _ _ _ _
+    (end_read c2.before.before.before.before.before.before.before) (count-read c3.before.before.before) c1.put_entry.ensures c2.put_u16.ensures c3.put_u16-2.ensures
 
-pub append-spec : {M : Type 1} → statement M
-append-spec =
-    tie.close
-    (tie.spec
-    length-at-requires
-    cast-end
-    count-requires
-    put-entry-requires
-    add-put-u16
-    add-put-u16-2
-    cast-put-u16
-    put-u16-requires
-    add-put-u16-3
-    cast-put-u16-2
-    put-u16-requires-2
-    same_length
-    returns)
+pub append_spec : {M : Type 1} → statement M
+append_spec =
+    tie.close (tie.spec length-at-requires cast-end count-requires put-entry-requires add-put-u16 add-put-u16-2 cast-put-u16 put-u16-requires add-put-u16-3 cast-put-u16-2 put-u16-requires-2 same_length returns)

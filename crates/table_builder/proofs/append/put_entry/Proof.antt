@@ -49,82 +49,70 @@ sized : (b : tie.Start) (k : ℕ) → k ≤ entry_head → Fits w64 (k + length 
 sized b k h = omega arith
 
 -- The start of the walk, from each of the four calls.
-abbrev start : tie.After-put-u16-arg → tie.Start
+abbrev start : tie.After-put_u16-arg-1 → tie.Start
 start c = c.before.before.before
 
-abbrev start-2 : tie.After-put-u16-arg2 → tie.Start
+abbrev start-2 : tie.After-put_u16-arg-2-1 → tie.Start
 start-2 c = start c.before.before.before.before
 
-abbrev start-3 : tie.After-put-u64-arg → tie.Start
+abbrev start-3 : tie.After-put_u64-arg-1 → tie.Start
 start-3 c = start-2 c.before.before.before.before
 
-abbrev start-4 : tie.After-copy-arg → tie.Start
+abbrev start-4 : tie.After-copy-arg-1 → tie.Start
 start-4 c = start-3 c.before.before.before.before
 
 -- No call changes the length.
-kept : (c : tie.After-put-u16) → length c.put-u16.new.0 ≡ length (start c.before).args.s.now
-kept c = c.put-u16.auto.0
+kept : (c : tie.After-put_u16) → length c.put_u16.new.s ≡ length (start c.before).args.s.now
+kept c = c.put_u16.auto.s
 
-kept-2 : (c : tie.After-put-u162) → length c.put-u162.new.0 ≡ length (start-2 c.before).args.s.now
-kept-2 c = c.put-u162.auto.0 ∙ kept c.before.before.before.before
+kept-2 : (c : tie.After-put_u16-2) → length c.put_u16-2.new.s ≡ length (start-2 c.before).args.s.now
+kept-2 c = c.put_u16-2.auto.s ∙ kept c.before.before.before.before
 
-kept-3 : (c : tie.After-put-u64) → length c.put-u64.new.0 ≡ length (start-3 c.before).args.s.now
-kept-3 c = c.put-u64.auto.0 ∙ kept-2 c.before.before.before.before
+kept-3 : (c : tie.After-put_u64) → length c.put_u64.new.s ≡ length (start-3 c.before).args.s.now
+kept-3 c = c.put_u64.auto.s ∙ kept-2 c.before.before.before.before
 
-add-put-u16 : tie.Need-overflow-add-put-u16
+add-put-u16 : tie.Need-overflow_add-value
 add-put-u16 c = sized (start c) _ (lit≤ tt)
 
-cast-put-u16 : tie.Need-overflow-cast-put-u16
+cast-put-u16 : tie.Need-overflow_cast-value
 cast-put-u16 c =
     let b = start c in
-    short _ _ (lit≤ tt) (formed b.args.kind (entry_head + length b.args.value.now) b.pre.0).high
+    short _ _ (lit≤ tt) (formed b.args.kind (entry_head + length b.args.value.now) b.requires.0).high
 
-put-u16-requires : tie.Need-put-u16-requires
+put-u16-requires : tie.Need-put_u16-requires
 put-u16-requires c κs = in_head _ _ _ _ (start c).requires.1 refl _ (lit≤ tt)
 
-add-put-u16-2 : tie.Need-overflow-add-put-u16-2
+add-put-u16-2 : tie.Need-overflow_add-at
 add-put-u16-2 c = reached (start-2 c) _ (lit≤ tt)
 
-put-u16-requires-2 : tie.Need-put-u16-requires-2
+put-u16-requires-2 : tie.Need-put_u16-requires-2
 put-u16-requires-2 c κs = field-ends _ _ _ _ (start-2 c).requires.1 (kept c.before.before.before) _ _ (lit≤ tt)
 
-add-put-u64 : tie.Need-overflow-add-put-u64
+add-put-u64 : tie.Need-overflow_add-at-2
 add-put-u64 c = reached (start-3 c) _ (lit≤ tt)
 
-put-u64-requires : tie.Need-put-u64-requires
+put-u64-requires : tie.Need-put_u64-requires
 put-u64-requires c κs = field-ends _ _ _ _ (start-3 c).requires.1 (kept-2 c.before.before.before) _ _ (lit≤ tt)
 
-add-copy : tie.Need-overflow-add-copy
+add-copy : tie.Need-overflow_add-at-3
 add-copy c = reached (start-4 c) _ (lit≤ tt)
 
 copy-requires : tie.Need-copy-requires
 copy-requires c κs = value-ends _ _ _ _ (start-4 c).requires.1 (kept-3 c.before.before.before)
 
-same_length : tie.Need-same-length
-same_length c = c.before.before.copy.auto.0 ∙ kept-3 c.before.before.before.before.before.before
+same_length : tie.Need-shape_of-s
+same_length c = c.copy.auto.dst ∙ kept-3 c.before.before.before.before.before.before
 
 returns : tie.Need-returns
 returns c =
-    let c4 = c.before.before in
-    let c3 = c4.before.before.before.before in
-    let c2 = c3.before.before.before.before in
-    let c1 = c2.before.before.before.before in
-    let a = (start c1.before).args in
-    written a.s.now _ _ _ _ a.at a.kind a.key.value a.value.now (start c1.before).requires.0
-    c1.put-u16.ensures c2.put-u162.ensures c3.put-u64.ensures c4.copy.ensures
+    let c4 = c in
+    let c3 = c4 in
+    let c2 = c3 in
+    let c1 = c2 in
+    let a = (start c1.before.before.before.before.before.before.before.before.before.before.before.before.before.before.before).args in
+    written a.s.now _ _ _ _ a.at a.kind a.key.value a.value.now (start c1.before.before.before.before.before.before.before.before.before.before.before.before.before.before.before).requires.0
+    c1.put_u16.ensures c2.put_u16-2.ensures c3.put_u64.ensures c4.copy.ensures
 
-pub put-entry-spec : {M : Type 1} → statement M
-put-entry-spec =
-    tie.close
-    (tie.spec
-    add-put-u16
-    cast-put-u16
-    put-u16-requires
-    add-put-u16-2
-    put-u16-requires-2
-    add-put-u64
-    put-u64-requires
-    add-copy
-    copy-requires
-    same_length
-    returns)
+pub put_entry_spec : {M : Type 1} → statement M
+put_entry_spec =
+    tie.close (tie.spec add-put-u16 cast-put-u16 put-u16-requires add-put-u16-2 put-u16-requires-2 add-put-u64 put-u64-requires add-copy copy-requires same_length returns)

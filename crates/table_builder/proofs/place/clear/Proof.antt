@@ -23,39 +23,38 @@ written : (n : ℕ) (s1 s2 s3 : List ℕ) → n ≡ place_size
 written n s1 s2 s3 size e1 e2 e3 = cc empty-written
 
 -- No call changes the length.
-kept : (c : tie.After-wipe) → length c.wipe.new.0 ≡ length c.before.before.before.args.s.now
-kept c = c.wipe.auto.0
+kept : (c : tie.After-wipe) → length c.wipe.new.s ≡ length c.args.s.now
+kept c = c.wipe.auto.s
 
-kept-2 : (c : tie.After-put-u16) → length c.put-u16.new.0 ≡ length c.before.before.before.before.before.before.before.args.s.now
-kept-2 c = c.put-u16.auto.0 ∙ kept c.before.before.before.before
+kept-2 : (c : tie.After-put_u16) → length c.put_u16.new.s ≡ length c.args.s.now
+kept-2 c = c.put_u16.auto.s ∙ kept c.before.before.before.before
 
 wipe-requires : tie.Need-wipe-requires
 wipe-requires c κs = tt
 
-cast-put-u16 : tie.Need-overflow-cast-put-u16
+cast-put-u16 : tie.Need-overflow_cast-put_u16
 cast-put-u16 c = Fits-lit tt
 
-put-u16-requires : tie.Need-put-u16-requires
+put-u16-requires : tie.Need-put_u16-requires
 put-u16-requires c κs =
-    let b = c.before.before.before.before.before.before in
+    let b = c in
     in_place _ _ (lit≤ tt) (kept c.before.before.before ∙ b.requires)
 
-put-u16-requires-2 : tie.Need-put-u16-requires-2
+put-u16-requires-2 : tie.Need-put_u16-requires-2
 put-u16-requires-2 c κs =
-    let b = c.before.before.before.before.before.before.before.before.before.before in
+    let b = c in
     in_place _ _ (lit≤ tt) (kept-2 c.before.before.before ∙ b.requires)
 
-same_length : tie.Need-same-length
-same_length c = c.before.before.put-u162.auto.0 ∙ kept-2 c.before.before.before.before.before.before
+same_length : tie.Need-shape_of-s
+same_length c = c.put_u16-2.auto.s ∙ kept-2 c.before.before.before.before.before.before
 
 returns : tie.Need-returns
 returns c =
-    let c3 = c.before.before in
-    let c2 = c3.before.before.before.before in
-    let c1 = c2.before.before.before.before in
-    written _ _ _ _ c1.before.before.before.requires c1.wipe.ensures c2.put-u16.ensures c3.put-u162.ensures
+    let c3 = c in
+    let c2 = c3 in
+    let c1 = c2 in
+    written _ _ _ _ c1.requires c1.wipe.ensures c2.put_u16.ensures c3.put_u16-2.ensures
 
 pub clear_spec : {M : Type 1} → statement M
 clear_spec =
-    tie.close
-    (tie.spec wipe-requires cast-put-u16 put-u16-requires put-u16-requires-2 same_length returns)
+    tie.close (tie.spec wipe-requires cast-put-u16 put-u16-requires put-u16-requires-2 same_length returns)

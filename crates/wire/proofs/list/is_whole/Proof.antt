@@ -5,22 +5,23 @@ use Rattle.wire.proofs.Splits.{whole-short, whole-test}
 use Rattle.wire.proofs.list.is_whole.Statement.{statement}
 use Rattle.wire.proofs.list.is_whole.Tie as tie
 
-sub-left : tie.Need-overflow-sub-left
+sub-left : tie.Need-overflow_sub-left
 sub-left c = search rules
 
-returns : tie.Need-returns
-returns c = sym (whole-short c.before.before.args.list.now c.before.before.args.at c.if1.true)
+returns : tie.Need-returns-then-left-lt-REQUEST_HEAD
+returns c = sym (whole-short c.args.list.now c.args.at c.if-left-lt-REQUEST_HEAD.true)
 
-length-at-requires : tie.Need-length-at-requires
+length-at-requires : tie.Need-length_at-len-requires
 length-at-requires c κs = search rules
 
-cast-len : tie.Need-overflow-cast-len
+cast-len : tie.Need-overflow_cast-len
 cast-len c = search rules
 
-returns-2 : tie.Need-returns-2
+returns-2 : tie.Need-returns
 returns-2 c =
-    let a = c.before.before.before.args in
-    whole-test a.list.now a.at c.length-at.result c.before.before.before.requires c.before.if1.false c.length-at.ensures
+    let a = c.args in
+    whole-test a.list.now a.at c.length_at-len.result c.requires c.if-left-lt-REQUEST_HEAD.false c.length_at-len.ensures
 
-pub is-whole-spec : {M : Type 1} → statement M
-is-whole-spec = tie.close (tie.spec sub-left returns length-at-requires cast-len returns-2)
+pub is_whole_spec : {M : Type 1} → statement M
+is_whole_spec =
+    tie.close (tie.spec sub-left returns length-at-requires cast-len returns-2)

@@ -7,19 +7,20 @@ use Rattle.wire.proofs.Written.{reply-written}
 use Rattle.wire.proofs.reply.answer_bare.Statement.{statement}
 use Rattle.wire.proofs.reply.answer_bare.Tie as tie
 
-write-head-requires : tie.Need-write-head-requires
+write-head-requires : tie.Need-write_head-requires
 write-head-requires c κs = search rules
 
-same_length : tie.Need-same-length
+same_length : tie.Need-shape_of-answer
 same_length c = search rules
 
 returns : tie.Need-returns
 returns c =
-    let a = c.before.before.before.before.before.args in
+    let a = c.args in
     record {
-      bytes = c.before.before.write-head.ensures ∙ reply-written a.answer.now a.at a.kind a.result [];
-      count = sym (length-reply a.kind a.result []);
+      bytes = c.write_head.ensures ∙ reply-written a.answer.now a.at a.kind a.res [];
+      count = sym (length-reply a.kind a.res []);
     }
 
-pub answer-bare-spec : {M : Type 1} → statement M
-answer-bare-spec = tie.close (tie.spec write-head-requires same_length returns)
+pub answer_bare_spec : {M : Type 1} → statement M
+answer_bare_spec =
+    tie.close (tie.spec write-head-requires same_length returns)

@@ -4,17 +4,18 @@ use native.Mathlib.Omega.{arith}
 use Rattle.book.proofs.head.Head.length_of.Statement.{statement}
 use Rattle.book.proofs.head.Head.length_of.Tie as tie
 
-returns : tie.Need-returns
-returns c = rw c.match.keys1
+returns : tie.Need-returns-in-0
+returns c = rw c.in-0.is
 
-returns-2 : tie.Need-returns-2
-returns-2 c = rw c.match.keys2
+returns-2 : tie.Need-returns-in-1
+returns-2 c = rw c.in-1.is
 
-returns-3 : tie.Need-returns-3
-returns-3 c = rw c.match.keys3
+returns-3 : tie.Need-returns-in-2
+returns-3 c = rw c.in-2.is
 
-returns-4 : tie.Need-returns-4
-returns-4 c = let e : c.before.args.level ≡ 3 = omega arith in rw e
+returns-4 : tie.Need-returns-in_default
+returns-4 c = let e : c.args.level ≡ 3 = omega arith in rw e
 
-pub length-of-spec : {M : Type 1} → statement M
-length-of-spec = tie.close (tie.spec returns returns-2 returns-3 returns-4)
+pub length_of_spec : {M : Type 1} → statement M
+length_of_spec =
+    tie.close (tie.spec returns returns-2 returns-3 returns-4)

@@ -5,17 +5,18 @@ use native.Mathlib.Omega.{arith}
 use Rattle.book.proofs.head.Head.with_mark.Statement.{statement}
 use Rattle.book.proofs.head.Head.with_mark.Tie as tie
 
-returns : tie.Need-returns
+returns : tie.Need-returns-then-level-eq1
 unfolding marked
-returns c = rw c.if1.true
+returns c = rw c.if-level-eq1.true
 
-returns-2 : tie.Need-returns-2
+returns-2 : tie.Need-returns-then-level-eq2
 unfolding marked
-returns-2 c = rw c.if2.true
+returns-2 c = rw c.if-level-eq2.true
 
-returns-3 : tie.Need-returns-3
+returns-3 : tie.Need-returns
 unfolding marked
-returns-3 c = let e : c.before.before.before.args.level ≡ 0 = omega arith in rw e
+returns-3 c = let e : c.args.level ≡ 0 = omega arith in rw e
 
-pub with-mark-spec : {M : Type 1} → statement M
-with-mark-spec = tie.close (tie.spec returns returns-2 returns-3)
+pub with_mark_spec : {M : Type 1} → statement M
+with_mark_spec =
+    tie.close (tie.spec returns returns-2 returns-3)
