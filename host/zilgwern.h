@@ -1,7 +1,7 @@
 /*
  * zilgwern.h: the van's survey store, an ordered key-value store over memory that the caller lends.
  *
- * For recorders written in C or C++ that link target/staticlib/libstore.a (written by `rt staticlib store`).
+ * For recorders written in C or C++ that link target/staticlib/libstore.a (written by `tools/staticlib`).
  *
  * The library keeps nothing of its own between calls, allocates nothing and opens no files; it calls memcpy, memmove and memset. A
  * store is the five pieces of memory below and nothing else: to copy a store, copy them; to keep one while the van is switched

@@ -1,4 +1,4 @@
-//! Links libstore.a: the one that `rt staticlib store` writes, or that in the folder which ZILGWERN_STATICLIB names.
+//! Links libstore.a: the one that `tools/staticlib` writes, or that in the folder which ZILGWERN_STATICLIB names.
 
 use std::env::var_os;
 use std::path::PathBuf;
@@ -17,7 +17,7 @@ fn main() {
     println!("cargo:rerun-if-changed={}", library.display());
     if !library.exists() {
         let missing = library.display();
-        println!("cargo:warning={missing} is missing: run `rt staticlib store` first");
+        println!("cargo:warning={missing} is missing: run `tools/staticlib` first");
     }
     println!("cargo:rustc-link-search=native={}", folder.display());
     println!("cargo:rustc-link-lib=static=store");

@@ -71,7 +71,7 @@ fn the_sessions_of_the_readme_run_as_printed() {
     run_sessions(&Folder::new("readme"), include_str!("../README.md"), 16);
 }
 
-/// Those that call `survey` want `rt check survey` first.
+/// Those that call `survey` want `tools/program` first.
 #[test]
 fn the_sessions_of_the_page_of_formats_run_as_printed() {
     run_sessions(&Folder::new("formats"), include_str!("../../docs/FORMATS.md"), 9);

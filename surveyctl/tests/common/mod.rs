@@ -68,7 +68,7 @@ impl Folder {
         came.out
     }
 
-    /// Runs a line of a shell in which the program, and the proved ones that `rt check survey` writes, can be called by their
+    /// Runs a line of a shell in which the program, and the proved ones that `tools/program` writes, can be called by their
     /// names; errors go where the output goes.
     pub fn shell(&self, line: &str) -> String {
         let program = Path::new(env!("CARGO_BIN_EXE_surveyctl"));
