@@ -1,5 +1,5 @@
 -- Free places over rows are those of a store whose cards the rows show; and one turn of the loops that seek and count them.
-use Prim.Native.Nat.{ℕ, zero, suc, ◌<◌, ◌+◌, ◌-◌}
+use Prim.Native.Nat.{ℕ, zero, suc, ◌<◌, ◌≤◌, ◌+◌, ◌-◌}
 use mathlib.Core.Path.{◌≡◌, refl, sym, ◌∙◌, ap}
 use mathlib.Core.Bool.{Bool, true, false, cond}
 use mathlib.Core.List.{List, [], ◌∷◌, map}
@@ -22,10 +22,10 @@ use Rattle.ldc.proofs.Stores.Places.{next-below, none_found}
 use Rattle.ldc.proofs.Stores.Sound.{Sound}
 use Rattle.ldc.specs.Layout.{state_of, card_of}
 use Rattle.book.specs.Place.{the_index, free_row, free_at, free_rows}
-use Rattle.book.specs.declared.index.Index.{Index}
-use Rattle.book.specs.declared.index.Index.TheVariants.{At, Nothing}
+use Rattle.std.specs.Prelude.{Some, None, is_some}
+use Rattle.std.specs.Prelude as code
 
-found-cond : (b : Bool) (p : ℕ) (f : Index) → the_index (cond b (At p) f) ≡ cond b (some p) (the_index f)
+found-cond : (b : Bool) (p : ℕ) (f : code.Option ℕ) → the_index (cond b (Some p) f) ≡ cond b (some p) (the_index f)
 found-cond true p f = refl
 found-cond false p f = refl
 
@@ -52,7 +52,7 @@ module _ (s : Store) (rows : List (List ℕ)) (shown : s.cards ≡ map card_of r
       ∙ rw (card-shown p, size-shown, free-shown n (next_place (length rows) p))
 
   -- The place found from the cursor on is the one that is taken.
-  pub taken-shown : (p : ℕ) → free_at (length rows) rows s.cursor ≡ At p → place_taken s ≡ p
+  pub taken-shown : (p : ℕ) → free_at (length rows) rows s.cursor ≡ Some p → place_taken s ≡ p
   unfolding place_taken
   taken-shown p h =
       rw (size-shown, ← free-shown (length rows) s.cursor, h)
@@ -70,13 +70,13 @@ sound-shown s so = sym (cards-rows s.cards s.places (few-links s so))
 -- ---- what a search says of the rows themselves
 
 -- A place that is found is one, and its row says free.
-pub found-free : (rows : List (List ℕ)) (n p q : ℕ) → p < length rows → free_at n rows p ≡ At q
+pub found-free : (rows : List (List ℕ)) (n p q : ℕ) → p < length rows → free_at n rows p ≡ Some q
     → (q < length rows) × (free_row (get_or rows q []) ≡ true)
 unfolding free_at
 found-free rows zero p q h e = absurd (let z : ◌≡◌ {A = ℕ} 0 1 = cc in omega arith)
 found-free rows (suc n) p q h e =
     cases (free_row (get_or rows p []))
-    (λ f. let found : At p ≡ At q = rw f at e in
+    (λ f. let found : Some p ≡ Some q = rw f at e in
     let same : p ≡ q = cc in
     (rw (← same) h, rw (← same) f))
     (λ f. found-free rows n (next_place (length rows) p) q (next-below (length rows) p h) (rw f at e))
@@ -86,7 +86,7 @@ bare : List (List ℕ) → Store
 bare rows = record { threshold = 0; cursor = 0; marks = []; levels = []; cards = map card_of rows; places = []; memory = [] }
 
 -- Where none is found going round, none is free.
-pub none_free : (rows : List (List ℕ)) (p : ℕ) → p < length rows → free_at (length rows) rows p ≡ Nothing → free_rows rows ≡ 0
+pub none_free : (rows : List (List ℕ)) (p : ℕ) → p < length rows → free_at (length rows) rows p ≡ None → free_rows rows ≡ 0
 unfolding free_rows bare
 none_free rows p h e =
     let s : Store = bare rows in
@@ -101,11 +101,19 @@ none_free rows p h e =
     (λ row m. let spot = get_or-mem rows [] m in
     rw (← spot.2, ← card-shown s rows refl spot.0) (each spot.0 spot.1))
 
+some-else : (o : code.Option ℕ) → (o ≡ None → ⊥) → is_some o ≡ true
+some-else None h = absurd (h refl)
+some-else (Some p) h = refl
+
+-- Where one is free, one is found.
+pub found-some : (rows : List (List ℕ)) (p : ℕ) → p < length rows → 1 ≤ free_rows rows → is_some (free_at (length rows) rows p) ≡ true
+found-some rows p h enough = some-else (free_at (length rows) rows p) (λ e. omega (arith, none_free rows p h e))
+
 -- ---- one turn of the loops over rows
 
 -- The first free place is this one, or the first from the next on.
 pub free-turn : (rows : List (List ℕ)) (n i p : ℕ) → i < n
-    → free_at (n - i) rows p ≡ cond (free_row (get_or rows p [])) (At p) (free_at (n - (i + 1)) rows (next_place (length rows) p))
+    → free_at (n - i) rows p ≡ cond (free_row (get_or rows p [])) (Some p) (free_at (n - (i + 1)) rows (next_place (length rows) p))
 unfolding free_at
 free-turn rows n i p h =
     let e : n - i ≡ suc (n - (i + 1)) = omega arith in

@@ -101,7 +101,8 @@ blank (suc n) = rw (blank n)
 
 -- What is left to be made free is this row and those behind it.
 pub free-all-turn : (rows : List (List ℕ)) (i : ℕ) → i < length rows
-    → sets rows i (all_free (drop i rows)) ≡ sets (set rows i (row_with free (zeros summary_words))) (i + 1) (all_free (drop (i + 1) (set rows i (row_with free (zeros summary_words)))))
+    → sets rows i (all_free (drop i rows))
+    ≡ sets (set rows i (row_with free (zeros summary_words))) (i + 1) (all_free (drop (i + 1) (set rows i (row_with free (zeros summary_words)))))
 unfolding all_free
 free-all-turn rows i h =
     rw (add-one i, drop-set-lt (suc i) rows i (row_with free (zeros summary_words)) (omega arith), drop-cons rows i [] h)

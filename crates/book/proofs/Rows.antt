@@ -23,7 +23,8 @@ use Rattle.ldc.proofs.Basics.ListLaws.{spell}
 use Rattle.ldc.proofs.Lent.Changes.{map-set}
 use Rattle.ldc.proofs.Lent.Parts.{length-links_at, links-of}
 pub use Rattle.ldc.proofs.Lent.Parts.{card-back, row_back, length-row_of, get_d_rows}
-use Rattle.ldc.specs.Layout.{link_limit, row_head, link_size, row_size, state_of, link_count, link_start, links_at, card_of, link_words, link_from, link_at, summary_start, row_with}
+use Rattle.ldc.specs.Layout.{link_limit, row_head, link_size, row_size, state_of, link_count, link_start, links_at, card_of}
+use Rattle.ldc.specs.Layout.{link_words, link_from, link_at, summary_start, row_with}
 use Rattle.book.specs.Row.{links_in, frozen_row, link_added}
 use Rattle.book.proofs.Every.{all-fails, all-passes}
 
@@ -135,11 +136,6 @@ pub freeze-row : (words : List ℕ) → frozen_row (row_with (live []) words) �
 unfolding row_with
 freeze-row words = refl
 
--- Four stores write the summary.
-pub summary-stored : (row words : List ℕ) → length words ≡ summary_words
-    → set (set (set (set row 34 (get_or words 0 0)) 35 (get_or words 1 0)) 36 (get_or words 2 0)) 37 (get_or words 3 0) ≡ sets row summary_start words
-summary-stored row words n = ap (λ (ws : List ℕ). sets row summary_start ws) (sym (spell 4 0 words n))
-
 -- Behind a live row without links.
 pub live-summary : (old words : List ℕ) → length old ≡ summary_words → length words ≡ summary_words
     → sets (row_with (live []) old) summary_start words ≡ row_with (live []) words
@@ -147,10 +143,12 @@ unfolding row_with zeros
 live-summary old words h n = rw (spell 4 0 old h, spell 4 0 words n)
 
 -- In a whole row it stands behind all else.
-pub summary-sets : (row words : List ℕ) → length row ≡ row_size → length words ≡ summary_words → sets row summary_start words ≡ take summary_start row ++ words
+pub summary-sets : (row words : List ℕ) → length row ≡ row_size → length words ≡ summary_words
+    → sets row summary_start words ≡ take summary_start row ++ words
 summary-sets row words h n =
     let all : sets (take summary_start row ++ (drop summary_start row ++ [])) summary_start words ≡ take summary_start row ++ (words ++ []) =
-    sets-mid (take summary_start row) (drop summary_start row) [] words summary_start (length-take-le summary_start row (omega arith)) (rw length-drop (omega arith)) in
+    sets-mid (take summary_start row) (drop summary_start row) [] words summary_start
+    (length-take-le summary_start row (omega arith)) (rw length-drop (omega arith)) in
     let one : drop summary_start row ++ [] ≡ drop summary_start row = append-nil (drop summary_start row) in
     let two : words ++ [] ≡ words = append-nil words in
     let three = take-append-drop summary_start row in

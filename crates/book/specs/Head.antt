@@ -1,11 +1,11 @@
 -- The head as ten words: threshold, cursor, flag and key of the marks of levels 1 and 2, the lengths of lists 0 to 3.
+use Rattle.std.specs.Prelude as code
 use Rattle.std.specs.Prelude.{ℕ, zero, suc, ◌*◌, List, [], ◌∷◌, get_or}
 use Rattle.std.proofs.Math.Option.{Option, some, none}
 use Rattle.std.proofs.lemmas.List.Edits.{sets}
 use Rattle.ldc.specs.Layout.{marks_of}
 use Rattle.book.specs.declared.head.Head.{Head}
-use Rattle.book.specs.declared.head.Mark.{Mark}
-use Rattle.book.specs.declared.head.Mark.TheVariants.{At, Nothing}
+use Rattle.coding.specs.declared.key.Key.{Key}
 
 abbrev pub head_words : Head → List ℕ
 head_words h =
@@ -14,9 +14,9 @@ head_words h =
     ∷ h.length0 ∷ h.length1 ∷ h.length2 ∷ h.length3 ∷ []
 
 -- A mark, as the definition has it.
-abbrev pub the_mark : Mark → Option ℕ
-the_mark (At k) = some k.value
-the_mark Nothing = none
+abbrev pub the_mark : code.Option Key → Option ℕ
+the_mark (code.Some k) = some k.value
+the_mark code.None = none
 
 -- The mark of a level that the words say. Level 0 has none.
 unfoldable pub mark_in : List ℕ → (level : ℕ) → Option ℕ

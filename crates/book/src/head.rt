@@ -32,7 +32,7 @@ const LENGTH2: usize = LENGTHS + 2;
 const LENGTH3: usize = LENGTHS + 3;
 
 // Where the next place is taken and the next table chosen: the cursor, and flag and key of the marks of levels 1 and 2. A mark's flag is 1 if
-// there is a key, 0 if none; what flags are lent is kept as it is.
+// there is a key, 0 if none. It stays a number beside the key, and no Option: what flags and keys are lent is kept as it is (`read`).
 #[derive(Clone, Copy)]
 pub struct Position {
     pub cursor: usize,
@@ -52,22 +52,12 @@ pub struct Head {
     pub length3: usize,
 }
 
-// The mark of a level.
-#[derive(Clone, Copy)]
-pub enum Mark {
-    At(Key),
-    Nothing,
-}
-
 // The mark of a flag and a key.
-fn mark_with(flag: u64, key: Key) -> Mark
+#[tactic(auto, unfolding(ldc::specs::Layout::mark_of))]
+fn mark_with(flag: u64, key: Key) -> Option<Key>
     ensures { the_mark result ≡ mark_of flag key.value }
 {
-    if flag == 0 {
-        Mark::Nothing
-    } else {
-        Mark::At(key)
-    }
+    if flag == 0 { None } else { Some(key) }
 }
 
 // The head that ten words say.
@@ -129,58 +119,43 @@ impl Head {
         ensures { head_words result ≡ set (head_words self) (length_word level) n }
     {
         match level {
-            0 => {
-                self.length0 = n;
-                self
-            }
-            1 => {
-                self.length1 = n;
-                self
-            }
-            2 => {
-                self.length2 = n;
-                self
-            }
-            _ => {
-                self.length3 = n;
-                self
-            }
+            0 => self.length0 = n,
+            1 => self.length1 = n,
+            2 => self.length2 = n,
+            _ => self.length3 = n,
         }
+        self
     }
 
     // The mark of a level; levels 0 and 3 have none.
-    pub fn mark_of(self, level: usize) -> Mark
+    #[tactic(auto, unfolding(crate::specs::Head::mark_in))]
+    pub fn mark_of(self, level: usize) -> Option<Key>
         ensures { the_mark result ≡ mark_in (head_words self) level }
     {
         let at = self.position;
-        if level == 1 {
-            let key = at.key1;
-            return mark_with(at.flag1, key);
+        match level {
+            1 => mark_with(at.flag1, at.key1),
+            2 => mark_with(at.flag2, at.key2),
+            _ => None,
         }
-        if level == 2 {
-            let key = at.key2;
-            return mark_with(at.flag2, key);
-        }
-        Mark::Nothing
     }
 
     // The same with a mark of level 1 or 2 at this key; level 0 has none.
+    #[tactic(auto, unfolding(crate::specs::Head::marked))]
     pub fn with_mark(mut self, level: usize, key: Key) -> Head
         requires { level < 3 }
         ensures { head_words result ≡ marked level key.value (head_words self) }
     {
-        let mut at = self.position;
-        if level == 1 {
-            at.flag1 = 1;
-            at.key1 = key;
-            self.position = at;
-            return self;
-        }
-        if level == 2 {
-            at.flag2 = 1;
-            at.key2 = key;
-            self.position = at;
-            return self;
+        match level {
+            1 => {
+                self.position.flag1 = 1;
+                self.position.key1 = key;
+            }
+            2 => {
+                self.position.flag2 = 1;
+                self.position.key2 = key;
+            }
+            _ => {}
         }
         self
     }

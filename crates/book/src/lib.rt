@@ -4,7 +4,6 @@
 #![tactic(auto)]
 
 pub mod head;
-pub mod index;
 pub mod limits;
 pub mod list;
 pub mod place;

@@ -55,6 +55,7 @@ pub const LIVE: u64 = 1;
 pub const FROZEN: u64 = 2;
 
 // The state that a row says.
+#[tactic(auto, unfolding(ldc::specs::Layout::state_of))]
 pub fn state(row: &Row) -> u64
     ensures { result ≡ state_of row.now }
 {
@@ -82,6 +83,7 @@ pub fn is_frozen(row: &Row) -> bool
 }
 
 // How many links the row says it has.
+#[tactic(auto, unfolding(ldc::specs::Layout::link_count))]
 pub fn link_count(row: &Row) -> u64
     ensures { result ≡ link_count row.now }
 {
@@ -92,14 +94,10 @@ pub fn link_count(row: &Row) -> u64
 pub fn links_held(row: &Row) -> usize
     ensures { result ≡ length (links_in row.now) }
 {
-    if !is_live(row) {
-        return 0;
-    }
-    let n = link_count(row);
-    if n < LINK_LIMIT as u64 {
-        n as usize
+    if is_live(row) {
+        link_count(row).min(LINK_LIMIT as u64) as usize
     } else {
-        LINK_LIMIT
+        0
     }
 }
 
@@ -166,12 +164,7 @@ pub fn set_summary(cards: &mut [Row], p: usize, words: Words)
     requires { p < length cards.old }
     ensures { cards.new ≡ set cards.old p (sets (get_or cards.old p []) summary_start words) }
 {
-    let mut row = cards[p];
-    row[SUMMARY] = words[0];
-    row[SUMMARY + 1] = words[1];
-    row[SUMMARY + 2] = words[2];
-    row[SUMMARY + 3] = words[3];
-    cards[p] = row;
+    cards[p][SUMMARY..].copy_from_slice(&words);
 }
 
 // Makes the place free: no links, no summary.
@@ -197,17 +190,16 @@ pub fn freeze(cards: &mut [Row], p: usize)
     requires { p < length cards.old }
     ensures { cards.new ≡ set cards.old p (frozen_row (get_or cards.old p [])) }
 {
-    let mut row = cards[p];
-    row[STATE] = FROZEN;
-    cards[p] = row;
+    cards[p][STATE] = FROZEN;
 }
 
 // Adds a link behind the last of a row that has room for it.
+#[tactic(auto, unfolding(ldc::specs::Layout::link_count))]
 pub fn add_link(cards: &mut [Row], p: usize, link: Link)
     requires { (p < length cards.old) × (link_count (get_or cards.old p []) < link_limit) }
     ensures { cards.new ≡ set cards.old p (link_added (the_link link) (get_or cards.old p [])) }
 {
-    let mut row = cards[p];
+    let row = &mut cards[p];
     let n = row[COUNT] as usize;
     let at = link_start(n);
     row[at] = link.place as u64;
@@ -215,5 +207,4 @@ pub fn add_link(cards: &mut [Row], p: usize, link: Link)
     row[at + HIGH] = link.high.value;
     row[at + NUMBER] = link.number;
     row[COUNT] = (n + 1) as u64;
-    cards[p] = row;
 }

@@ -1,4 +1,5 @@
--- The pieces of a store that fits: rows show its cards, parts of the lists its levels. What one write leaves of the pieces is lent of the store after it.
+-- The pieces of a store that fits: rows show its cards, parts of the lists its levels. What one write leaves of the pieces is lent of the
+-- store after it.
 use Prim.Native.Nat.{ℕ, ◌*◌, ◌≤◌, ◌<◌}
 use mathlib.Core.Path.{◌≡◌, refl, sym, ◌∙◌, ap}
 use mathlib.Core.List.{List, [], map, Memᴰ}
@@ -24,10 +25,11 @@ use Rattle.ldc.proofs.Stores.Facts.{cursor-sound}
 use Rattle.ldc.proofs.Stores.Places.{taken-below}
 use Rattle.ldc.proofs.Stores.Sound.{Sound, Whole}
 use Rattle.ldc.proofs.Stores.SoundRules.{threshold-eight}
-use Rattle.ldc.proofs.Stores.Written.{size-written, placed-written, card-written-other, card-written-same, bytes-written-other, bytes-written-same, cursor-written}
+use Rattle.ldc.proofs.Stores.Written.{size-written, placed-written, card-written-other, card-written-same}
+use Rattle.ldc.proofs.Stores.Written.{bytes-written-other, bytes-written-same, cursor-written}
 use Rattle.ldc.specs.Layout.{card_of, table_summary, row_of, items_in, part_in, link_limit, length_in, length_word, level_count}
 use Rattle.book.specs.Place.{free_at, free_rows}
-use Rattle.book.specs.declared.index.Index.TheVariants.{At}
+use Rattle.std.specs.Prelude.{Some}
 use Rattle.book.proofs.Free.{taken-shown, count-shown}
 use Rattle.book.proofs.Heads.{words-cursor, words-length}
 use Rattle.book.proofs.Levels.{take-padded}
@@ -129,7 +131,8 @@ module _ (s : Store) (f : Fits s) where
   }
 
   -- Other items of a level are lent of the store with that list.
-  pub lists-changed : (n : ℕ) (ps : List ℕ) → n < level_count → length ps ≤ size s → with_items n (size s) ps (lent_of s).lists ≡ (lent_of (with_level n ps s)).lists
+  pub lists-changed : (n : ℕ) (ps : List ℕ) → n < level_count → length ps ≤ size s
+      → with_items n (size s) ps (lent_of s).lists ≡ (lent_of (with_level n ps s)).lists
   unfolding with_items level
   lists-changed n ps h few =
       sym (rw f.placed at (lists-with_level s n ps (λ i k. rw f.placed (f.listed i)) (omega (arith, f.four)) (rw f.placed few)))
@@ -185,7 +188,8 @@ module _ (s : Store) (f : Fits s) (es : List Entry) (enough : 1 ≤ free_places 
 
   pub lists-written : (lent_of (written es s)).lists ≡ (lent_of s).lists
   unfolding written lent_of
-  lists-written = lists-with_place (with_card (place_taken s) (live []) (with_cursor (next_place (size s) (place_taken s)) s)) (place_taken s) (table_bytes es)
+  lists-written =
+      lists-with_place (with_card (place_taken s) (live []) (with_cursor (next_place (size s) (place_taken s)) s)) (place_taken s) (table_bytes es)
 
   area-written : (lent_of (written es s)).area ≡ sets (lent_of s).area (place_taken s * place_size) (table_bytes es)
   unfolding written lent_of
@@ -205,11 +209,12 @@ module _ (s : Store) (f : Fits s) (es : List Entry) (enough : 1 ≤ free_places 
 
   -- The place that the code takes and writes.
   pub shows-written : (area area' : List ℕ) (cards cards' : List (List ℕ)) (head head' : List ℕ) (p : ℕ)
-      → Shows area cards head s → Takes cards head cards' head' p (table_summary (table_bytes es)) → area' ≡ sets area (p * place_size) (table_bytes es)
+      → Shows area cards head s → Takes cards head cards' head' p (table_summary (table_bytes es))
+      → area' ≡ sets area (p * place_size) (table_bytes es)
       → (p ≡ place_taken s) × Shows area' cards' head' (written es s)
   shows-written area area' cards cards' head head' p sh t w =
       let rows : List (List ℕ) = (lent_of s).cards in
-      let at : free_at (length rows) rows s.cursor ≡ At p =
+      let at : free_at (length rows) rows s.cursor ≡ Some p =
       rw (sh.cards, sh.head, words-cursor s) at t.first in
       let here : place_taken s ≡ p = taken-shown s rows (cards-shown s f) p at in (
         sym here,

@@ -10,12 +10,12 @@ use Rattle.ldc.specs.Steps.{replaced}
 use Rattle.ldc.proofs.Lent.Parts.{padded}
 use Rattle.ldc.specs.Layout.{items_in, part_in, length_in}
 use Rattle.book.specs.Level.{index_of, spliced}
-use Rattle.book.specs.declared.index.Index.TheVariants.{At}
+use Rattle.std.specs.Prelude.{Some}
 use Rattle.book.proofs.Levels.{append-padded, replaced-padded, index-stands}
 use Rattle.book_edit.specs.Level.{Listing}
 
 -- A list with its i-th item replaced by several has that many more, less one.
-pub length-replaced : (p i : ℕ) (items ps : List ℕ) → index_of p ps ≡ At i
+pub length-replaced : (p i : ℕ) (items ps : List ℕ) → index_of p ps ≡ Some i
     → (i < length ps) × (length (replaced p items ps) ≡ length ps + length items - 1)
 length-replaced p i items ps h =
     let s = index-stands p i ps h in
@@ -41,7 +41,7 @@ module _ (n size : ℕ) (lists words : List ℕ) (l : Listing n size lists words
       ∙ append-padded size p (items_in size lists words n) (omega (arith, items-long))
 
   -- One item replaced by several.
-  pub part-replaced : (p i : ℕ) (items : List ℕ) → index_of p (items_in size lists words n) ≡ At i → length_in words n + length items ≤ suc size
+  pub part-replaced : (p i : ℕ) (items : List ℕ) → index_of p (items_in size lists words n) ≡ Some i → length_in words n + length items ≤ suc size
       → spliced i (length_in words n) items (part_in size lists n) ≡ padded size (replaced p items (items_in size lists words n))
   part-replaced p i items h room =
       ap (λ (xs : List ℕ). spliced i (length_in words n) items xs) part-padded

@@ -8,7 +8,6 @@ ghost use Rattle.book_edit.specs.Level.{Listing, Relisted};
 
 use super::items;
 use book::head::Head;
-use book::index::Index;
 
 // Puts a place behind the last of level n's list, whose part has so many items.
 pub fn join(lists: &mut [u16], size: usize, head: Head, n: usize, p: u16) -> Head
@@ -33,9 +32,7 @@ pub fn replace(lists: &mut [u16], size: usize, head: Head, n: usize, p: u16, ite
     let old = head.length_of(n);
     let start = n * size;
     let part = &mut lists[start..start + size];
-    let Index::At(i) = items::index(part, old, p) else {
-        return head;
-    };
+    let i = items::index(part, old, p).unwrap();
     items::replace(part, old, i, items);
     head.with_length(n, old + items.len() - 1)
 }

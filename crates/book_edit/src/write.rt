@@ -12,6 +12,7 @@ ghost use Rattle.book_edit.specs.Take.{Takes};
 use book::head::Head;
 use book::row;
 use book::row::Row;
+use book_places::take;
 use summary::filter;
 use table::limits;
 use table_builder::place;
@@ -29,14 +30,8 @@ pub fn take(cards: &mut [Row], mut head: Head) -> Taken
     requires { (head.position.cursor < length cards.old) × (1 ≤ free_rows cards.old) }
     ensures { Takes cards.old (head_words head) cards.new (head_words result.head) result.place (zeros summary_words) }
 {
-    let from = head.position;
-    let taken = book_places::take::take(cards, from);
-    let to = taken.position;
-    head.position = to;
-    Taken {
-        place: taken.place,
-        head,
-    }
+    let place = take::take_place(cards, &mut head.position);
+    Taken { place, head }
 }
 
 // Takes a place and writes a whole table to it, and its summary to the card; the rest of the area stays.

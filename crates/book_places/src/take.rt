@@ -8,12 +8,10 @@ ghost use Rattle.ldc.specs.Store.{live};
 ghost use Rattle.ldc.specs.Place.{next_place};
 ghost use Rattle.ldc.specs.Layout.{row_with};
 ghost use Rattle.book.specs.Place.{free_at, free_rows};
-ghost use Rattle.book.specs.declared.index.Index.TheVariants.{At};
 ghost use Rattle.book_places.specs.Taking.{TakesAt};
 
 use super::free;
 use book::head::Position;
-use book::index::Index;
 use book::row;
 use book::row::Row;
 
@@ -34,13 +32,11 @@ pub struct Advanced {
 // Makes the first free place from the cursor on, going round, live without links and without a summary yet.
 pub fn take_from(cards: &mut [Row], cursor: usize) -> Step
     requires { (cursor < length cards.old) × (1 ≤ free_rows cards.old) }
-    ensures { (free_at (length cards.old) cards.old cursor ≡ At result.place)
+    ensures { (free_at (length cards.old) cards.old cursor ≡ Some result.place)
         × ((cards.new ≡ set cards.old result.place (row_with (live []) (zeros summary_words)))
         × (result.cursor ≡ next_place (length cards.old) result.place)) }
 {
-    let Index::At(p) = free::first_free(cards, cursor) else {
-        return Step { place: 0, cursor };
-    };
+    let p = free::first_free(cards, cursor).unwrap();
     row::make_live(cards, p);
     Step {
         place: p,

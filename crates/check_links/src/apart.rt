@@ -22,54 +22,28 @@ use table_builder::place;
 fn links_apart(g: Link, h: Link) -> bool
     ensures { result ≡ apart_in (the_link g) (the_link h) }
 {
-    let low = g.low;
-    let high = g.high;
-    (g.place != h.place) | (high.below(h.low) | h.high.below(low))
+    (g.place != h.place) | ((g.high < h.low) | (h.high < g.low))
 }
 
 // Is a link apart from those of a row, from the one at `from` on?
 fn link_apart(g: Link, row: &Row, from: usize) -> bool
     ensures { result ≡ all (apart_in (the_link g)) (drop from (links_in row.now)) }
 {
-    let n = row::links_held(row);
-    let mut j = from;
-    while j < n {
-        if !links_apart(g, row::link_at(row, j)) {
-            return false;
-        }
-        j += 1;
-    }
-    true
+    (from..row::links_held(row)).all(|j| links_apart(g, row::link_at(row, j)))
 }
 
 // Are the links of a row apart from each other?
 pub fn own_apart(row: &Row) -> bool
     ensures { result ≡ pairs apart_in (links_in row.now) }
 {
-    let n = row::links_held(row);
-    let mut j = 0;
-    while j < n {
-        if !link_apart(row::link_at(row, j), row, j + 1) {
-            return false;
-        }
-        j += 1;
-    }
-    true
+    (0..row::links_held(row)).all(|j| link_apart(row::link_at(row, j), row, j + 1))
 }
 
 // Are the links of one row apart from those of another?
 fn rows_apart(a: &Row, b: &Row) -> bool
     ensures { result ≡ cross_apart (links_in a.now) (links_in b.now) }
 {
-    let n = row::links_held(a);
-    let mut j = 0;
-    while j < n {
-        if !link_apart(row::link_at(a, j), b, 0) {
-            return false;
-        }
-        j += 1;
-    }
-    true
+    (0..row::links_held(a)).all(|j| link_apart(row::link_at(a, j), b, 0))
 }
 
 // Are the links of each table of a list apart from each other?
@@ -77,15 +51,7 @@ fn owns_apart(cards: &[Row], items: &[u16]) -> bool
     requires { names_places (length cards.now) items.now ≡ true }
     ensures { result ≡ all (λ p. pairs apart_in (links_on cards.now p)) items.now }
 {
-    let mut i = 0;
-    while i < items.len() {
-        let p = items[i] as usize;
-        if !own_apart(&cards[p]) {
-            return false;
-        }
-        i += 1;
-    }
-    true
+    items.iter().all(|&p| own_apart(&cards[usize::from(p)]))
 }
 
 // Are the links of a row apart from those of all tables of a list?
@@ -93,15 +59,9 @@ fn rest_apart(cards: &[Row], row: &Row, items: &[u16]) -> bool
     requires { names_places (length cards.now) items.now ≡ true }
     ensures { result ≡ all (λ q. cross_apart (links_in row.now) (links_on cards.now q)) items.now }
 {
-    let mut i = 0;
-    while i < items.len() {
-        let q = items[i] as usize;
-        if !rows_apart(row, &cards[q]) {
-            return false;
-        }
-        i += 1;
-    }
-    true
+    items
+        .iter()
+        .all(|&q| rows_apart(row, &cards[usize::from(q)]))
 }
 
 // Are the links of different tables of a list apart? Compares each table with all behind it.
@@ -109,11 +69,8 @@ fn tables_apart(cards: &[Row], items: &[u16]) -> bool
     requires { names_places (length cards.now) items.now ≡ true }
     ensures { result ≡ pairs (λ p q. cross_apart (links_on cards.now p) (links_on cards.now q)) items.now }
 {
-    let mut i = 0;
-    while i < items.len() {
-        let p = items[i] as usize;
-        i += 1;
-        if !rest_apart(cards, &cards[p], &items[i..]) {
+    for (i, &p) in items.iter().enumerate() {
+        if !rest_apart(cards, &cards[usize::from(p)], &items[i + 1..]) {
             return false;
         }
     }
@@ -147,8 +104,7 @@ pub fn levels_apart(
     ensures { result ≡ levels_apart 3 1 cards.now lists.now head.now (zeros (length cards.now)) }
 {
     place::wipe(marks);
-    let mut n = 1;
-    while n < LEVELS {
+    for n in 1..LEVELS {
         let items = list::items(lists, cards.len(), list::length(head, n), n);
         if !named::items_unmarked(cards, items, marks) {
             return false;
@@ -157,7 +113,6 @@ pub fn levels_apart(
             return false;
         }
         named::mark_items(cards, items, marks);
-        n += 1;
     }
     true
 }

@@ -32,9 +32,7 @@ fn link_good(area: &[u8], cards: &[Row], l: Link) -> bool
     requires { Sized area.now cards.now × (walk_c area.now cards.now ≡ true) }
     ensures { result ≡ link_good (shown_by area.now cards.now) (the_link l) }
 {
-    let low = l.low;
-    let high = l.high;
-    if high.below(low) {
+    if l.high < l.low {
         return false;
     }
     let p = l.place;
@@ -52,15 +50,7 @@ fn links_good(area: &[u8], cards: &[Row], row: &Row) -> bool
     requires { Sized area.now cards.now × (walk_c area.now cards.now ≡ true) }
     ensures { result ≡ all (link_good (shown_by area.now cards.now)) (links_in row.now) }
 {
-    let n = row::links_held(row);
-    let mut j = 0;
-    while j < n {
-        if !link_good(area, cards, row::link_at(row, j)) {
-            return false;
-        }
-        j += 1;
-    }
-    true
+    (0..row::links_held(row)).all(|j| link_good(area, cards, row::link_at(row, j)))
 }
 
 // Has this row at most T links, all of them good?
@@ -79,14 +69,9 @@ fn cards_hang(area: &[u8], cards: &[Row], threshold: u64) -> bool
     requires { Sized area.now cards.now × (walk_c area.now cards.now ≡ true) }
     ensures { result ≡ cards_hang area.now cards.now threshold }
 {
-    let mut p = 0;
-    while p < cards.len() {
-        if !row_hangs(area, cards, threshold, &cards[p]) {
-            return false;
-        }
-        p += 1;
-    }
-    true
+    cards
+        .iter()
+        .all(|row| row_hangs(area, cards, threshold, row))
 }
 
 // Have the tables of this list no links?
@@ -94,15 +79,9 @@ pub fn all_bare(cards: &[Row], items: &[u16]) -> bool
     requires { names_places (length cards.now) items.now ≡ true }
     ensures { result ≡ bare cards.now items.now }
 {
-    let mut i = 0;
-    while i < items.len() {
-        let p = items[i] as usize;
-        if row::links_held(&cards[p]) != 0 {
-            return false;
-        }
-        i += 1;
-    }
-    true
+    items
+        .iter()
+        .all(|&p| row::links_held(&cards[usize::from(p)]) == 0)
 }
 
 // In `marks` there is room for a mark of each place.

@@ -3,16 +3,17 @@
 use Prim.Native.Nat.{ℕ, zero, suc, ◌+◌, ◌*◌, ◌≤◌, ◌<◌, min}
 use mathlib.Core.Path.{◌≡◌, refl, sym, ◌∙◌}
 use mathlib.Core.Bool.{true, false, cond, not, ◌&&◌, ◌||◌, and-true, and-false, true≢false}
-use mathlib.Core.List.{List, [], Memᴰ}
+use mathlib.Core.List.{List, [], ◌∷◌, Memᴰ}
 use native.Mathlib.Omega.{arith}
-use borrow.Author.Tests.{leb-true, ltb-true, eqb-true, eq-eqb}
+use borrow.Author.Tests.{leb-true, ltb-true, eqb-true, eqb-false, eq-eqb}
 use lib.Dec.{leb, ltb, eqb}
-use lib.ListN.{length, get_or, take, drop, drop_of_length-le}
+use lib.ListN.{length, get_or, set, take, drop, drop_of_length-le}
+use lib.Seq.{get_or-set_same, get_or-set_other}
 use Rattle.table.specs.Table.{entries, zeros, is_table, all_zero, place_of}
 use Rattle.table.specs.Search.{greatest_key}
 use Rattle.table.proofs.Tests.{and_parts, cases}
 use Rattle.table.proofs.Zeros.{length-zeros}
-use Rattle.ldc.specs.Lists.{how_many}
+use Rattle.ldc.specs.Lists.{all, how_many}
 use Rattle.ldc.specs.Store.{Card, free, live, frozen, is_free, is_live}
 use Rattle.ldc.specs.Lent.{row_good}
 use Rattle.ldc.proofs.Basics.ListLaws.{all-at, all_of, below_at, how_many-mem}
@@ -72,13 +73,15 @@ counted-all P items p h =
     let e : 0 + how_many (eqb p) items ≡ how_many (eqb p) items = omega arith in
     rw e at r
 
-module _ (area : List ℕ) (cards : List (List ℕ)) (lists head : List ℕ) (z : Sized area cards) (kept_b : walk_b cards lists head ≡ true) (kept-c : walk_c area cards ≡ true) where
+module _ (area : List ℕ) (cards : List (List ℕ)) (lists head : List ℕ) (z : Sized area cards) (kept_b : walk_b cards lists head ≡ true)
+    (kept-c : walk_c area cards ≡ true) where
   pub good-lists : lists_good (length cards) lists head ≡ true
   unfolding walk_b
   good-lists = (and_parts (lists_good (length cards) lists head) _ kept_b).0
 
   -- What is listed is live.
-  listed-live : (n p : ℕ) → n < level_count → Memᴰ p (items_in (length cards) lists head n) → (p < length cards) × (is_live (card_of (get_or cards p [])) ≡ true)
+  listed-live : (n p : ℕ) → n < level_count → Memᴰ p (items_in (length cards) lists head n)
+      → (p < length cards) × (is_live (card_of (get_or cards p [])) ≡ true)
   unfolding walk_b places_good place_good names_places
   listed-live n p h m =
       let near : p < length cards = ltb-true _ _ (all-at (λ i. ltb i (length cards)) (items_in (length cards) lists head n)
@@ -103,11 +106,13 @@ module _ (area : List ℕ) (cards : List (List ℕ)) (lists head : List ℕ) (z 
   list-tabled n h = all_of (λ p. is_table (place_of area p)) (items_in (length cards) lists head n)
       (λ p m. let l = listed-live n p h m in
       let good : (is_free (card_of (get_or cards p [])) || is_table (place_of area p)) ≡ true =
-      (and_parts (is_free (card_of (get_or cards p [])) || is_table (place_of area p)) _ (below_at (length cards) (place_tabled area cards) kept-c p l.0)).0 in
+      (and_parts (is_free (card_of (get_or cards p [])) || is_table (place_of area p)) _
+      (below_at (length cards) (place_tabled area cards) kept-c p l.0)).0 in
       rw (live-not-free _ l.1) at good)
 
   -- And its greatest key is noted.
-  list-noted : (ends : List ℕ) → Noted area cards ends → (n : ℕ) → n < level_count → lasts_noted area ends (items_in (length cards) lists head n) ≡ true
+  list-noted : (ends : List ℕ) → Noted area cards ends → (n : ℕ) → n < level_count
+      → lasts_noted area ends (items_in (length cards) lists head n) ≡ true
   unfolding lasts_noted
   list-noted ends noted n h = all_of (λ p. eqb (get_or ends p 0) (greatest_key (entries (place_of area p)))) (items_in (length cards) lists head n)
       (λ p m. let l = listed-live n p h m in eq-eqb _ _ (noted.last p l.0 (live-not-free (card_of (get_or cards p [])) l.1)))
@@ -126,6 +131,27 @@ module _ (area : List ℕ) (cards : List (List ℕ)) (lists head : List ℕ) (z 
       lasts = list-noted ends noted n h;
     };
   }
+
+-- The greatest keys of the tables before p are noted.
+abbrev pub NotedTo : (p : ℕ) → (area : List ℕ) → (cards : List (List ℕ)) → (ends : List ℕ) → Type 0
+NotedTo p area cards ends =
+    (q : ℕ) → q < p → is_free (card_of (get_or cards q [])) ≡ false → get_or ends q 0 ≡ greatest_key (entries (place_of area q))
+
+-- One more is noted.
+pub one_more : (p v : ℕ) (area : List ℕ) (cards : List (List ℕ)) (ends : List ℕ) → p < length ends → NotedTo p area cards ends
+    → (is_free (card_of (get_or cards p [])) ≡ false → v ≡ greatest_key (entries (place_of area p))) → NotedTo (p + 1) area cards (set ends p v)
+one_more p v area cards ends h before here q hq used =
+    cases (eqb q p)
+    (λ e. let same : q ≡ p = eqb-true q p e in
+    rw same (get_or-set_same ends p v 0 h ∙ here (rw same at used)))
+    (λ e. let less : q < p = omega (arith, eqb-false q p e) in
+    get_or-set_other ends p q v 0 (eqb-false q p e) ∙ before q less used)
+
+-- Zeros, as a generic walk finds them.
+pub zeros-found : (s : List ℕ) → all (λ x. eqb x 0) s ≡ all_zero s
+unfolding all_zero
+zeros-found [] = refl
+zeros-found (x ∷ s) = rw (zeros-found s)
 
 -- Behind more links than there is room for nothing is left.
 pub rest-none : (words : List ℕ) (n : ℕ) → length words ≡ summary_start → link_limit < n → true ≡ all_zero (drop (link_start n) words)

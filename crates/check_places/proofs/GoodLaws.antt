@@ -40,7 +40,8 @@ module _ (area : List ℕ) (cards : List (List ℕ)) where
   unfolding walk_c place_tabled
   frozen-table k p h f =
       let g : (is_free (card_of (get_or cards p [])) || is_table (place_of area p)) ≡ true =
-      (and_parts (is_free (card_of (get_or cards p [])) || is_table (place_of area p)) _ (below_at (length cards) (place_tabled area cards) k p h)).0 in
+      (and_parts (is_free (card_of (get_or cards p [])) || is_table (place_of area p)) _
+      (below_at (length cards) (place_tabled area cards) k p h)).0 in
       rw (frozen-not-free _ f) at g
 
   module _ (l : Link) where

@@ -92,7 +92,11 @@ two-levels n g h d = rw (ne_eqb n h.on d) (mathlib.Core.Bool.or-false (not (eqb 
 pairs-hung : (n : ℕ) (ls : List Link) → pairs apart (map (hung n) ls) ≡ pairs apart_in ls
 pairs-hung n [] = refl
 pairs-hung n (l ∷ ls) =
-    rw (all_map (hung n) (apart (hung n l)) ls, all_same (λ k. apart (hung n l) (hung n k)) (apart_in l) ls (λ k m. same-level n l k), pairs-hung n ls)
+    rw (
+      all_map (hung n) (apart (hung n l)) ls,
+      all_same (λ k. apart (hung n l) (hung n k)) (apart_in l) ls (λ k m. same-level n l k),
+      pairs-hung n ls,
+    )
 
 pub all_apart-pairs : (hs : List Hung) → all_apart hs ≡ pairs apart hs
 all_apart-pairs [] = refl
@@ -151,12 +155,14 @@ module _ (cards : List (List ℕ)) (lists head : List ℕ) where
       let ls : List Link = level_links from in
       let hs : List Hung = hungs k (suc from) level_links in
       let inner = levels-hung k (suc from) (links_marked t ls) (λ n l lo hi x. rw (long-marks t ls) (d n l (omega arith) (omega arith) x)) in
-      let split : all (λ h. unmarked (links_marked t ls) h.link) hs ≡ (all (λ h. unmarked t h.link) hs && all (λ h. all (λ l. apart (hung from l) h) ls) hs) =
+      let split : all (λ h. unmarked (links_marked t ls) h.link) hs
+      ≡ (all (λ h. unmarked t h.link) hs && all (λ h. all (λ l. apart (hung from l) h) ls) hs) =
       all_same (λ h. unmarked (links_marked t ls) h.link) (λ h. unmarked t h.link && all (λ l. apart (hung from l) h) ls) hs
       (λ h m. let r = hung-mem (length t) level_links k (suc from) (λ n l lo hi x. d n l (omega arith) (omega arith) x) h m in
       left-unmarked t ls h.link r.1
       ∙ rw (all_same (λ l. apart (hung from l) h) (λ l. not (eqb l.place h.link.place)) ls (λ l y. two-levels from l h (λ e. omega (arith, r.0)))))
-      ∙ all_split (λ h. unmarked t h.link && all (λ l. apart (hung from l) h) ls) (λ h. unmarked t h.link) (λ h. all (λ l. apart (hung from l) h) ls) hs (λ h. refl) in
+      ∙ all_split (λ h. unmarked t h.link && all (λ l. apart (hung from l) h) ls) (λ h. unmarked t h.link)
+      (λ h. all (λ l. apart (hung from l) h) ls) hs (λ h. refl) in
       let swap : all (λ h. all (λ l. apart (hung from l) h) ls) hs ≡ all (λ x. all (apart x) hs) (map (hung from) ls) =
       sym (all_map (hung from) (λ x. all (apart x) hs) ls ∙ all-swap (λ l h. apart (hung from l) h) ls hs) in
       rw (
@@ -168,7 +174,8 @@ module _ (cards : List (List ℕ)) (lists head : List ℕ) where
         pairs-append apart (map (hung from) ls) hs,
         pairs-hung from ls,
       )
-      (level-shuffle (all (unmarked t) ls) (pairs apart_in ls) (all (λ h. unmarked t h.link) hs) (all (λ x. all (apart x) hs) (map (hung from) ls)) (pairs apart hs))
+      (level-shuffle (all (unmarked t) ls) (pairs apart_in ls) (all (λ h. unmarked t h.link) hs)
+      (all (λ x. all (apart x) hs) (map (hung from) ls)) (pairs apart hs))
 
   -- With no marks at first: the links of levels 1 to 3 are apart.
   pub levels-all : (P : ℕ) → Named P 3 1 level_links

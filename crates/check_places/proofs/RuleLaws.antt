@@ -14,8 +14,10 @@ use Rattle.table.specs.Table.{is_table, all_zero, zeros, place_of}
 use Rattle.table.proofs.Tests.{and_parts, cases}
 use Rattle.ldc.specs.Lists.{all, how_many, flat, is_empty, all_from}
 use Rattle.ldc.specs.Store.{Link, size, card, links, links_of, is_free, is_live, is_frozen, bytes_at, level}
-use Rattle.ldc.specs.Rules.{threshold_good, rule_a, rule_b, rule_c, rule_e, rule_f, rule_g, times_listed, link_good, hung_on, all_apart, named, spans_rise}
-use Rattle.ldc.specs.Lent.{Lent, places_in, sizes_good, list_length, list_part, level_of, store_of, row_good, numbers_good, summary_good, summaries_good, counts_good, unused_zero, kept_b, kept_c}
+use Rattle.ldc.specs.Rules.{threshold_good, rule_a, rule_b, rule_c, rule_e, rule_f, rule_g}
+use Rattle.ldc.specs.Rules.{times_listed, link_good, hung_on, all_apart, named, spans_rise}
+use Rattle.ldc.specs.Lent.{Lent, places_in, list_length, list_part, level_of, store_of}
+use Rattle.ldc.specs.Lent.{sizes_good, row_good, numbers_good, summary_good, summaries_good, counts_good, unused_zero, kept_b, kept_c}
 use Rattle.ldc.proofs.Basics.ListLaws.{all-at, mem-get_or}
 use Rattle.ldc.proofs.Lent.Shows.{sizes}
 use Rattle.ldc.proofs.Stores.SoundRules.{good-frozen}
@@ -30,7 +32,8 @@ use Rattle.check_places.specs.Lists.{listed, tallied, list_good, lists_good, pla
 use Rattle.check_places.specs.Links.{place_tabled, walk_c, Noted, row_hangs, cards_hang, bare, walk_e, walk_f, marks_fit, mark_fits}
 use Rattle.check_places.specs.Parts.{level_rises, list_rest_zero, walk_g}
 use Rattle.check_places.proofs.FoundLaws.{counted-all, walkable}
-use Rattle.check_places.proofs.WalkLaws.{from-split, below-same, rows_all, all_same, card-seen, links-seen, bytes-seen, good-seen, rise-seen, size-seen, level-items, all_listed}
+use Rattle.check_places.proofs.WalkLaws.{from-split, below-same, rows_all, all_same, level-items, all_listed}
+use Rattle.check_places.proofs.WalkLaws.{card-seen, links-seen, bytes-seen, good-seen, rise-seen, size-seen}
 use Rattle.check_places.proofs.MarkLaws.{mark-named, hung, level_links, levels-all}
 
 -- A capped count is right exactly if the count is.
@@ -79,7 +82,8 @@ good-place area cards t h items l x =
     (λ q. let row = all-at (row_hangs area cards t) cards h (mem-get_or cards p [] (ltb-true _ _ q)) in
     let good : link_good (shown_by area cards) l ≡ true =
     all-at (link_good (shown_by area cards)) (links_in (get_or cards p [])) (and_parts (leb (link_count (get_or cards p [])) t) _ row).1 o.1 in
-    let cold : is_frozen (card_of (get_or cards l.place [])) ≡ true = rw (card-shown area cards l.place) at (good-frozen (shown_by area cards) l good) in
+    let cold : is_frozen (card_of (get_or cards l.place [])) ≡ true =
+    rw (card-shown area cards l.place) at (good-frozen (shown_by area cards) l good) in
     cases (ltb l.place (length cards))
     (λ r. ltb-true _ _ r)
     (λ r. let warm = card-beyond area cards l.place (ltb-false _ _ r) in absurd (false≢true (rw warm at cold))))
@@ -130,11 +134,17 @@ module _ (m : Lent) (good : sizes_good m ≡ true) where
 
   -- Each place by its count, and by how often it is listed.
   times : lengths ≡ true → (p : ℕ) → p < length m.cards
-      → eqb (get_or (tallied (zeros (length m.cards)) (listed level_count 0 (length m.cards) m.lists m.head)) p 0) (cond (is_live (card_of (get_or m.cards p []))) 1 0)
+      → eqb (get_or (tallied (zeros (length m.cards)) (listed level_count 0 (length m.cards) m.lists m.head)) p 0)
+      (cond (is_live (card_of (get_or m.cards p []))) 1 0)
       ≡ eqb (times_listed (store_of m) p) (cond (is_live (card (store_of m) p)) 1 0)
   unfolding times_listed
   times h p hp =
-      rw (levels-listed h, card-seen m p, card-shown m.area m.cards p, counted-all (length m.cards) (listed level_count 0 (length m.cards) m.lists m.head) p hp)
+      rw (
+        levels-listed h,
+        card-seen m p,
+        card-shown m.area m.cards p,
+        counted-all (length m.cards) (listed level_count 0 (length m.cards) m.lists m.head) p hp,
+      )
       (capped (how_many (eqb p) (listed level_count 0 (length m.cards) m.lists m.head)) (is_live (card_of (get_or m.cards p []))))
 
   places-parts : lengths ≡ true
@@ -233,7 +243,8 @@ module _ (m : Lent) (good : sizes_good m ≡ true) where
               (λ p. all (link_good (store_of m)) (links (store_of m) p)) (length m.cards)
               (λ p h. unfold links_on in
               rw (links-seen m p, links-shown m.area m.cards p)
-              (all_same (link_good (shown_by m.area m.cards)) (link_good (store_of m)) (links_in (get_or m.cards p [])) (λ l x. sym (good-seen m l)))),
+              (all_same (link_good (shown_by m.area m.cards)) (link_good (store_of m)) (links_in (get_or m.cards p []))
+              (λ l x. sym (good-seen m l)))),
         )
 
     bare-level : bare m.cards (items_in (length m.cards) m.lists m.head 0) ≡ all (λ p. is_empty (links (store_of m) p)) (level (store_of m) 0)
@@ -250,7 +261,8 @@ module _ (m : Lent) (good : sizes_good m ≡ true) where
 
     -- Where links are good, those of all levels are apart if `levels_apart` says so.
     apart-levels : cards_hang m.area m.cards (threshold_in m.head) ≡ true
-        → all_apart (hung_on (store_of m) 1 ++ (hung_on (store_of m) 2 ++ hung_on (store_of m) 3)) ≡ levels_apart 3 1 m.cards m.lists m.head (zeros (length m.cards))
+        → all_apart (hung_on (store_of m) 1 ++ (hung_on (store_of m) 2 ++ hung_on (store_of m) 3))
+        ≡ levels_apart 3 1 m.cards m.lists m.head (zeros (length m.cards))
     apart-levels h =
         rw (hung-level 1 (omega arith), hung-level 2 (omega arith), hung-level 3 (omega arith))
         (sym (levels-all m.cards m.lists m.head (length m.cards)
@@ -276,8 +288,11 @@ module _ (m : Lent) (good : sizes_good m ≡ true) where
     unfolding list_rest_zero
     rest-same n = rw places
 
-    rests-same : all_from level_count 0 (λ n. all_zero (drop (list_length m n) (list_part m n))) ≡ all_from level_count 0 (list_rest_zero (length m.cards) m.lists m.head)
-    rests-same = below-same (λ n. all_zero (drop (list_length m n) (list_part m n))) (list_rest_zero (length m.cards) m.lists m.head) level_count (λ n h. rest-same n)
+    rests-same : all_from level_count 0 (λ n. all_zero (drop (list_length m n) (list_part m n)))
+        ≡ all_from level_count 0 (list_rest_zero (length m.cards) m.lists m.head)
+    rests-same =
+        below-same (λ n. all_zero (drop (list_length m n) (list_part m n))) (list_rest_zero (length m.cards) m.lists m.head) level_count
+        (λ n h. rest-same n)
 
     rise-same : (n : ℕ) → n < level_count → spans_rise (store_of m) (level (store_of m) n) ≡ level_rises m.area m.cards m.lists m.head n
     unfolding level_rises

@@ -20,6 +20,7 @@ fn bump(k: u8) -> u8
 }
 
 // Is this row's state one of three, and has it links only if it is live?
+#[tactic(auto, unfolding(ldc::specs::Lent::row_good))]
 fn row_good(row: &Row) -> bool
     ensures { result ≡ row_good row.now }
 {
@@ -33,14 +34,12 @@ fn tally(items: &[u16], places: usize, counts: &mut [u8]) -> bool
     ensures { (result ≡ names_places places items.now)
         × (result ≡ true → counts.new ≡ tallied counts.old items.now) }
 {
-    let mut i = 0;
-    while i < items.len() {
-        let at = items[i] as usize;
-        if places <= at {
+    for &p in items {
+        let p = usize::from(p);
+        if places <= p {
             return false;
         }
-        counts[at] = bump(counts[at]);
-        i += 1;
+        counts[p] = bump(counts[p]);
     }
     true
 }
@@ -51,8 +50,7 @@ fn tally_all(lists: &[u16], head: &HeadWords, places: usize, counts: &mut [u8]) 
     ensures { (result ≡ lists_good places lists.now head.now)
         × (result ≡ true → counts.new ≡ tallied counts.old (listed level_count 0 places lists.now head.now)) }
 {
-    let mut n = 0;
-    while n < LEVELS {
+    for n in 0..LEVELS {
         let len = list::length(head, n);
         if places < len {
             return false;
@@ -60,7 +58,6 @@ fn tally_all(lists: &[u16], head: &HeadWords, places: usize, counts: &mut [u8]) 
         if !tally(list::items(lists, places, len, n), places, counts) {
             return false;
         }
-        n += 1;
     }
     true
 }
@@ -69,10 +66,7 @@ fn tally_all(lists: &[u16], head: &HeadWords, places: usize, counts: &mut [u8]) 
 fn place_good(row: &Row, times: u8) -> bool
     ensures { result ≡ row_good row.now && eqb times (cond (is_live (card_of row.now)) 1 0) }
 {
-    if row::is_live(row) {
-        return row_good(row) & (times == 1);
-    }
-    row_good(row) & (times == 0)
+    row_good(row) & (times == u8::from(row::is_live(row)))
 }
 
 // The same of all rows.
@@ -80,12 +74,10 @@ fn places_good(cards: &[Row], counts: &[u8]) -> bool
     requires { length cards.now ≤ length counts.now }
     ensures { result ≡ places_good cards.now counts.now }
 {
-    let mut p = 0;
-    while p < cards.len() {
-        if !place_good(&cards[p], counts[p]) {
+    for (p, row) in cards.iter().enumerate() {
+        if !place_good(row, counts[p]) {
             return false;
         }
-        p += 1;
     }
     true
 }
@@ -96,9 +88,5 @@ pub fn kept(cards: &[Row], lists: &[u16], head: &HeadWords, counts: &mut [u8]) -
     ensures { result ≡ walk_b cards.now lists.now head.now }
 {
     place::wipe(counts);
-    if tally_all(lists, head, cards.len(), counts) {
-        places_good(cards, counts)
-    } else {
-        false
-    }
+    tally_all(lists, head, cards.len(), counts) && places_good(cards, counts)
 }

@@ -1,6 +1,6 @@
 // Rule C: live and frozen places hold tables, and the bits of their cards are right. The tables' greatest keys are noted on the way, for the
 // spans of rules E and G.
-ghost use Rattle.std.specs.Prelude.{◌≡◌, true, false, ◌&&◌, ◌||◌, ◌≤◌, length};
+ghost use Rattle.std.specs.Prelude.{◌≡◌, true, false, ◌&&◌, ◌||◌, ◌≤◌, length, is_some, IfSome};
 ghost use Rattle.table.specs.Limits.{place_size};
 ghost use Rattle.table.specs.Table.{is_table, entries};
 ghost use Rattle.table.specs.Search.{greatest_key};
@@ -15,28 +15,21 @@ use book::{place, row};
 use coding::key::Key;
 use summary::filter;
 use table::valid;
-use table::valid::Judged;
 
-// Is this place free, or does it hold a table whose bits are on the card? And the table's greatest key.
-fn judge_place(row: &Row, place: &[u8]) -> Judged
+// Is this place free, or does it hold a table whose bits are on the card? If so, the table's greatest key, of a free place the least of all.
+fn judge_place(row: &Row, place: &[u8]) -> Option<Key>
     requires { length place.now ≡ place_size }
-    ensures { (result.good ≡ (is_free (card_of row.now) || is_table place.now) && summary_good row.now place.now)
-        × (result.good ≡ true → is_free (card_of row.now) ≡ false → result.last.value ≡ greatest_key (entries place.now)) }
+    ensures good { is_some result ≡ (is_free (card_of row.now) || is_table place.now) && summary_good row.now place.now }
+    ensures greatest { is_free (card_of row.now) ≡ false → IfSome result (λ k. k.value ≡ greatest_key (entries place.now)) }
 {
     if row::is_free(row) {
-        return Judged {
-            good: true,
-            last: Key::LEAST,
-        };
+        return Some(Key::LEAST);
     }
-    let judged = valid::judge(place);
-    if !judged.good {
-        return judged;
-    }
-    let last = judged.last;
-    Judged {
-        good: row::has_summary(row, filter::of_table(place)),
-        last,
+    let greatest = valid::judge(place)?;
+    if row::has_summary(row, filter::of_table(place)) {
+        Some(greatest)
+    } else {
+        None
     }
 }
 
@@ -46,14 +39,11 @@ pub fn kept(area: &[u8], cards: &[Row], ends: &mut [u64]) -> bool
     ensures { (result ≡ walk_c area.now cards.now)
         × (result ≡ true → Noted area.now cards.now ends.new) }
 {
-    let mut p = 0;
-    while p < cards.len() {
-        let judged = judge_place(&cards[p], place::bytes_of(area, p));
-        if !judged.good {
+    for p in 0..cards.len() {
+        let Some(greatest) = judge_place(&cards[p], place::bytes_of(area, p)) else {
             return false;
-        }
-        ends[p] = judged.last.value;
-        p += 1;
+        };
+        ends[p] = greatest.value;
     }
     true
 }

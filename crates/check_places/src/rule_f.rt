@@ -16,10 +16,8 @@ use table_builder::place;
 fn mark_all(cards: &[Row], marks: &mut [u8])
     ensures { marks.new ≡ links_marked marks.old (flat (map links_in cards.now)) }
 {
-    let mut p = 0;
-    while p < cards.len() {
-        named::mark_row(&cards[p], marks);
-        p += 1;
+    for row in cards {
+        named::mark_row(row, marks);
     }
 }
 
@@ -27,10 +25,7 @@ fn mark_all(cards: &[Row], marks: &mut [u8])
 fn mark_good(row: &Row, mark: u8) -> bool
     ensures { result ≡ eqb mark (cond (is_frozen (card_of row.now)) 1 0) }
 {
-    if row::is_frozen(row) {
-        return mark == 1;
-    }
-    mark == 0
+    mark == u8::from(row::is_frozen(row))
 }
 
 // The same of all rows.
@@ -38,12 +33,10 @@ pub fn marks_good(cards: &[Row], marks: &[u8]) -> bool
     requires { length cards.now ≤ length marks.now }
     ensures { result ≡ marks_fit cards.now marks.now }
 {
-    let mut p = 0;
-    while p < cards.len() {
-        if !mark_good(&cards[p], marks[p]) {
+    for (p, row) in cards.iter().enumerate() {
+        if !mark_good(row, marks[p]) {
             return false;
         }
-        p += 1;
     }
     true
 }

@@ -2,7 +2,7 @@
 // not: so several are at a time.
 ghost use Rattle.std.specs.Prelude.{◌≡◌, ℕ, ◌*◌, ◌≤◌, ◌<◌, length, drop};
 ghost use Rattle.table.specs.Table.{all_zero};
-ghost use Rattle.ldc.specs.Lists.{all_from};
+ghost use Rattle.ldc.specs.Lists.{all, all_from};
 ghost use Rattle.ldc.specs.Layout.{link_start, summary_start, mark_good, marks_good, row_rest, level_count, length_in};
 ghost use Rattle.check_places.specs.Parts.{list_rest_zero};
 
@@ -12,6 +12,7 @@ use book::row::Row;
 use book::{list, row};
 
 // A mark's flag is 1, or 0 with a key of 0.
+#[tactic(auto, unfolding(ldc::specs::Layout::mark_good))]
 fn mark_good(flag: u64, key: u64) -> bool
     ensures { result ≡ mark_good flag key }
 {
@@ -25,17 +26,15 @@ pub fn head_marks_good(head: &HeadWords) -> bool
     mark_good(head[FLAG1], head[KEY1]) & mark_good(head[FLAG2], head[KEY2])
 }
 
-// Are all words from `from` on zero?
-fn words_zero(words: &[u64], from: usize) -> bool
-    ensures { result ≡ all_zero (drop from words.now) }
+// Are all of these numbers, words or items, `zero`?
+fn all_are<T: Copy + PartialEq>(numbers: &[T], zero: T) -> bool
+    ensures { result ≡ all (λ x. T.eq x zero) numbers.now }
 {
-    let mut zero = true;
-    let mut j = from;
-    while j < words.len() {
-        zero = zero & (words[j] == 0);
-        j += 1;
+    let mut found = true;
+    for &x in numbers {
+        found &= x == zero;
     }
-    zero
+    found
 }
 
 // Are the words behind n links zero, up to the summary's?
@@ -46,31 +45,17 @@ fn links_rest_zero(words: &[u64], n: u64) -> bool
     if (LINK_LIMIT as u64) < n {
         return true;
     }
-    words_zero(words, row::link_start(n as usize))
+    all_are(&words[row::link_start(n as usize)..], 0)
 }
 
 // Are the words of a row zero that are not in use: those behind its links, and the summary's of a free place?
 pub fn row_rest_zero(row: &Row) -> bool
     ensures { result ≡ all_zero (row_rest row.now) }
 {
-    let words = &row[..];
-    if row::is_free(row) & !words_zero(words, row::SUMMARY) {
+    if row::is_free(row) & !all_are(row::summary_of(row), 0) {
         return false;
     }
-    links_rest_zero(&words[..row::SUMMARY], row::link_count(row))
-}
-
-// Are all of these items zero?
-fn items_zero(items: &[u16]) -> bool
-    ensures { result ≡ all_zero items.now }
-{
-    let mut zero = true;
-    let mut i = 0;
-    while i < items.len() {
-        zero = zero & (items[i] == 0);
-        i += 1;
-    }
-    zero
+    links_rest_zero(&row[..row::SUMMARY], row::link_count(row))
 }
 
 // Are the items of all lists behind those in use zero?
@@ -78,13 +63,11 @@ pub fn lists_rest_zero(lists: &[u16], head: &HeadWords, places: usize) -> bool
     requires { (length lists.now ≡ level_count * places) × ((n : ℕ) → n < level_count → length_in head.now n ≤ places) }
     ensures { result ≡ all_from level_count 0 (list_rest_zero places lists.now head.now) }
 {
-    let mut n = 0;
-    while n < LEVELS {
+    for n in 0..LEVELS {
         let len = list::length(head, n);
-        if !items_zero(list::rest(lists, places, len, n)) {
+        if !all_are(list::rest(lists, places, len, n), 0) {
             return false;
         }
-        n += 1;
     }
     true
 }

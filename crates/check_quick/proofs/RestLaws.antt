@@ -26,7 +26,8 @@ module _ (area : List ℕ) (cards : List (List ℕ)) (t : ℕ) (h : all (row_kep
   unfolding row_kept
   rows-parts =
       and_parts (all (row_hangs area cards t) cards) _
-      (sym (all_split (row_kept area cards t) (row_hangs area cards t) (λ row. pairs apart_in (links_in row) && all_zero (row_rest row)) cards (λ row. refl)) ∙ h)
+      (sym (all_split (row_kept area cards t) (row_hangs area cards t) (λ row. pairs apart_in (links_in row) && all_zero (row_rest row)) cards
+      (λ row. refl)) ∙ h)
 
   pub rows-hang : cards_hang area cards t ≡ true
   unfolding cards_hang
@@ -35,7 +36,8 @@ module _ (area : List ℕ) (cards : List (List ℕ)) (t : ℕ) (h : all (row_kep
   own-parts : (all (λ row. pairs apart_in (links_in row)) cards ≡ true) × (all (λ row. all_zero (row_rest row)) cards ≡ true)
   own-parts =
       and_parts (all (λ row. pairs apart_in (links_in row)) cards) _
-      (sym (all_split (λ row. pairs apart_in (links_in row) && all_zero (row_rest row)) (λ row. pairs apart_in (links_in row)) (λ row. all_zero (row_rest row)) cards (λ row. refl))
+      (sym (all_split (λ row. pairs apart_in (links_in row) && all_zero (row_rest row)) (λ row. pairs apart_in (links_in row))
+      (λ row. all_zero (row_rest row)) cards (λ row. refl))
       ∙ rows-parts.1)
 
   pub rows_apart : all (λ row. pairs apart_in (links_in row)) cards ≡ true

@@ -30,8 +30,7 @@ pub fn levels_kept(
         × (all_from 3 1 (level_rises area.now cards.now lists.now head.now) ≡ true) }
 {
     place::wipe(marks);
-    let mut n = 1;
-    while n < LEVELS {
+    for n in 1..LEVELS {
         let items = list::items(lists, cards.len(), list::length(head, n), n);
         if !named::items_unmarked(cards, items, marks) {
             return false;
@@ -40,7 +39,6 @@ pub fn levels_kept(
             return false;
         }
         named::mark_items(cards, items, marks);
-        n += 1;
     }
     true
 }

@@ -13,17 +13,14 @@ use check_places::unused;
 use check_walk::named;
 
 // Has this row at most T links, all good and apart from each other, and zeros behind them?
+#[tactic(auto, unfolding(crate::specs::Rest::row_kept))]
 fn row_kept(area: &[u8], cards: &[Row], threshold: u64, row: &Row) -> bool
     requires { Sized area.now cards.now × (walk_c area.now cards.now ≡ true) }
     ensures { result ≡ row_kept area.now cards.now threshold row.now }
 {
-    if !rule_e::row_hangs(area, cards, threshold, row) {
-        return false;
-    }
-    if !apart::own_apart(row) {
-        return false;
-    }
-    unused::row_rest_zero(row)
+    rule_e::row_hangs(area, cards, threshold, row)
+        && apart::own_apart(row)
+        && unused::row_rest_zero(row)
 }
 
 // The same of all rows. The places that their links name are then marked.
@@ -32,13 +29,11 @@ pub fn rows_kept(area: &[u8], cards: &[Row], threshold: u64, marks: &mut [u8]) -
     ensures { (result ≡ all (row_kept area.now cards.now threshold) cards.now)
         × (result ≡ true → marks.new ≡ links_marked marks.old (flat (map links_in cards.now))) }
 {
-    let mut p = 0;
-    while p < cards.len() {
-        if !row_kept(area, cards, threshold, &cards[p]) {
+    for row in cards {
+        if !row_kept(area, cards, threshold, row) {
             return false;
         }
-        named::mark_row(&cards[p], marks);
-        p += 1;
+        named::mark_row(row, marks);
     }
     true
 }

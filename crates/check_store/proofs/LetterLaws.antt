@@ -4,7 +4,8 @@ use mathlib.Core.Path.{◌≡◌, refl, sym, ◌∙◌}
 use mathlib.Core.Bool.{true, false, ◌&&◌}
 use Rattle.table.specs.Table.{is_memory}
 use Rattle.ldc.specs.Rules.{rule_a, rule_e, rule_f, rule_g}
-use Rattle.ldc.specs.Lent.{Lent, sizes_good, store_of, counts_good, unused_zero, kept_b, kept_c, presupposed, kept_e, kept_f, kept_g, first_broken, broken, letter_a, letter_b, letter_c, letter_d, letter_e, letter_f, letter_g}
+use Rattle.ldc.specs.Lent.{Lent, sizes_good, store_of, counts_good, unused_zero, kept_b, kept_c, presupposed}
+use Rattle.ldc.specs.Lent.{kept_e, kept_f, kept_g, first_broken, broken, letter_a, letter_b, letter_c, letter_d, letter_e, letter_f, letter_g}
 use Rattle.ldc.specs.Run.{check}
 use Rattle.ldc.proofs.Lent.Letters.{first-none, first_some, letter-5, letter-none}
 use Rattle.table.proofs.Tests.{cases}

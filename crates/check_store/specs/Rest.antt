@@ -1,4 +1,4 @@
--- The letter of rules E, F and G, and the stores for which a check takes less room.
+-- The letter of rules E, F and G.
 use Rattle.std.specs.Prelude.{ℕ, List, cond}
 use Rattle.ldc.specs.Lent.{letter_e, letter_f, letter_g}
 use Rattle.check_places.specs.Links.{walk_e, walk_f}
@@ -8,7 +8,3 @@ use Rattle.check_places.specs.Parts.{walk_g}
 unfoldable pub rest_letter : (area : List ℕ) → (cards : List (List ℕ)) → (lists head : List ℕ) → ℕ
 rest_letter area cards lists head =
     cond (walk_e area cards lists head) (cond (walk_f cards) (cond (walk_g area cards lists head) 0 letter_g) letter_f) letter_e
-
--- As many places are few.
-abbrev pub few_places : ℕ
-few_places = 256

@@ -6,8 +6,9 @@
 
 ghost use Rattle.std.specs.Prelude.{◌≡◌, true, ◌≤◌, length};
 ghost use Rattle.ldc.specs.Lent.{sizes_good, first_broken};
+ghost use Rattle.ldc.specs.Layout.{most_places};
 ghost use Rattle.check_store.specs.Answer.{Answers};
-ghost use Rattle.check_store.specs.Rest.{rest_letter, few_places};
+ghost use Rattle.check_store.specs.Rest.{rest_letter};
 ghost use Rattle.check_walk.specs.Links.{Walkable};
 ghost use Rattle.check_places.specs.Links.{walk_c};
 ghost use Rattle.book.specs.Pieces.{lent, before};
@@ -95,19 +96,20 @@ fn first_broken(
     rest_letter(area, cards, lists, head, ends, marks)
 }
 
-// The same for a store of few places: it takes no room for as many keys as the largest store has places.
-fn first_of_few(
+// The same for a store of at most `ROOM` places: it takes room for as many keys and marks.
+fn first_within<const ROOM: usize>(
     area: &[u8],
     cards: &[Row],
     lists: &[u16],
     head: &HeadWords,
     memory: &PlaceBytes,
 ) -> u64
-    requires { (sizes_good (lent area.now cards.now lists.now head.now memory.now) ≡ true) × (length cards.now ≤ few_places) }
+    requires { (sizes_good (lent area.now cards.now lists.now head.now memory.now) ≡ true)
+        × ((length cards.now ≤ ROOM) × (ROOM ≤ most_places)) }
     ensures { result ≡ first_broken (before area.now cards.now lists.now head.now memory.now) }
 {
-    let mut ends = [0u64; FEW_PLACES];
-    let mut marks = [0u8; FEW_PLACES];
+    let mut ends = [0u64; ROOM];
+    let mut marks = [0u8; ROOM];
     let places = cards.len();
     first_broken(
         area,
@@ -120,32 +122,7 @@ fn first_of_few(
     )
 }
 
-// The same for a store of any size.
-fn first_of_many(
-    area: &[u8],
-    cards: &[Row],
-    lists: &[u16],
-    head: &HeadWords,
-    memory: &PlaceBytes,
-) -> u64
-    requires { sizes_good (lent area.now cards.now lists.now head.now memory.now) ≡ true }
-    ensures { result ≡ first_broken (before area.now cards.now lists.now head.now memory.now) }
-{
-    let mut ends = [0u64; MOST_PLACES];
-    let mut marks = [0u8; MOST_PLACES];
-    let places = cards.len();
-    first_broken(
-        area,
-        cards,
-        lists,
-        head,
-        memory,
-        &mut ends[..],
-        &mut marks[..places],
-    )
-}
-
-// The same, by the size.
+// The same, by the size: a store of few places takes no room for as many keys as the largest one has places.
 fn first_letter(
     area: &[u8],
     cards: &[Row],
@@ -157,9 +134,9 @@ fn first_letter(
     ensures { result ≡ first_broken (before area.now cards.now lists.now head.now memory.now) }
 {
     if cards.len() <= FEW_PLACES {
-        return first_of_few(area, cards, lists, head, memory);
+        return first_within::<FEW_PLACES>(area, cards, lists, head, memory);
     }
-    first_of_many(area, cards, lists, head, memory)
+    first_within::<MOST_PLACES>(area, cards, lists, head, memory)
 }
 
 // Is this a sound store? Nothing is asked of what is lent, and nothing is written.

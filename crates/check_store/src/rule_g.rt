@@ -17,14 +17,7 @@ use check_walk::span;
 fn rows_rest_zero(cards: &[Row]) -> bool
     ensures { result ≡ all (λ row. all_zero (row_rest row)) cards.now }
 {
-    let mut p = 0;
-    while p < cards.len() {
-        if !unused::row_rest_zero(&cards[p]) {
-            return false;
-        }
-        p += 1;
-    }
-    true
+    cards.iter().all(|row| unused::row_rest_zero(row))
 }
 
 // Do the spans of levels 1 to 3 rise?
@@ -32,13 +25,11 @@ fn levels_rise(area: &[u8], cards: &[Row], lists: &[u16], head: &HeadWords, ends
     requires { Walkable area.now cards.now lists.now head.now ends.now }
     ensures { result ≡ all_from 3 1 (level_rises area.now cards.now lists.now head.now) }
 {
-    let mut n = 1;
-    while n < LEVELS {
+    for n in 1..LEVELS {
         let len = list::length(head, n);
         if !span::rise(area, cards, ends, list::items(lists, cards.len(), len, n)) {
             return false;
         }
-        n += 1;
     }
     true
 }

@@ -80,7 +80,8 @@ cross-over : (ls : List Link) (cards : List (List ℕ)) (items : List ℕ)
 unfolding links_over cross_apart
 cross-over ls cards [] = all_of (λ l. true) ls (λ l m. refl)
 cross-over ls cards (q ∷ items) =
-    all_split (λ l. all (apart_in l) (links_on cards q ++ links_over cards items)) (λ l. all (apart_in l) (links_on cards q)) (λ l. all (apart_in l) (links_over cards items)) ls
+    all_split (λ l. all (apart_in l) (links_on cards q ++ links_over cards items)) (λ l. all (apart_in l) (links_on cards q))
+    (λ l. all (apart_in l) (links_over cards items)) ls
     (λ l. all_append (apart_in l) (links_on cards q) (links_over cards items))
     ∙ rw (cross-over ls cards items)
 
@@ -141,7 +142,8 @@ module _ (area : List ℕ) (cards : List (List ℕ)) (z : Sized area cards) wher
       ))
 
   -- Links of a table whose span ends below the start of another's are apart from the other's.
-  cross-apart : (p q : ℕ) → span_end (shown_by area cards) p < span_start (shown_by area cards) q → cross_apart (links_on cards p) (links_on cards q) ≡ true
+  cross-apart : (p q : ℕ) → span_end (shown_by area cards) p < span_start (shown_by area cards) q
+      → cross_apart (links_on cards p) (links_on cards q) ≡ true
   unfolding span_start span_end cross_apart apart_in
   cross-apart p q h =
       let s = shown_by area cards in
@@ -154,7 +156,8 @@ module _ (area : List ℕ) (cards : List (List ℕ)) (z : Sized area cards) wher
       let low : ltb l.high k.low ≡ true = lt-ltb l.high k.low (omega arith) in
       rw low (or-true (not (eqb l.place k.place)))))
 
-  rises-above : (end : ℕ) (items : List ℕ) → names_places (length cards) items ≡ true → tabled area items ≡ true → rises_from (shown_by area cards) end items ≡ true
+  rises-above : (end : ℕ) (items : List ℕ) → names_places (length cards) items ≡ true → tabled area items ≡ true
+      → rises_from (shown_by area cards) end items ≡ true
       → (q : ℕ) → Memᴰ q items → end < span_start (shown_by area cards) q
   unfolding names_places tabled
   rises-above end [] b t r q x4 = elim x4 [ ]
@@ -176,15 +179,18 @@ module _ (area : List ℕ) (cards : List (List ℕ)) (z : Sized area cards) wher
   rises-apart (p ∷ x ∷ items) b t r =
       let b' = and_parts (ltb p (length cards)) _ b in
       let t' = and_parts (is_table (place_of area p)) _ t in
-      let r' : rises_from (shown_by area cards) (span_end (shown_by area cards) p) (x ∷ items) ≡ true = sym (rise-from (shown_by area cards) p (x ∷ items)) ∙ r in
+      let r' : rises_from (shown_by area cards) (span_end (shown_by area cards) p) (x ∷ items) ≡ true =
+      sym (rise-from (shown_by area cards) p (x ∷ items)) ∙ r in
       rw (all_of (λ q. cross_apart (links_on cards p) (links_on cards q)) (x ∷ items)
       (λ q m. cross-apart p q (rises-above (span_end (shown_by area cards) p) (x ∷ items) b'.1 t'.1 r' q m)))
       (rises-apart (x ∷ items) b'.1 t'.1 (and_parts (ltb (span_end (shown_by area cards) p) (span_start (shown_by area cards) x)) _ r).1)
 
   -- So on such a level only the links of each table need comparing.
-  pub level-rising : (items : List ℕ) → names_places (length cards) items ≡ true → tabled area items ≡ true → spans_rise (shown_by area cards) items ≡ true
+  pub level-rising : (items : List ℕ) → names_places (length cards) items ≡ true → tabled area items ≡ true
+      → spans_rise (shown_by area cards) items ≡ true
       → pairs apart_in (links_over cards items) ≡ all (λ p. pairs apart_in (links_on cards p)) items
-  level-rising items b t r = level-parts cards items ∙ rw (rises-apart items b t r) (mathlib.Core.Bool.and-true (all (λ p. pairs apart_in (links_on cards p)) items))
+  level-rising items b t r =
+      level-parts cards items ∙ rw (rises-apart items b t r) (mathlib.Core.Bool.and-true (all (λ p. pairs apart_in (links_on cards p)) items))
 
 -- ---- levels
 

@@ -41,16 +41,19 @@ module _ (t row : List ℕ) (j : ℕ) where
 -- One turn of the loops that mark the places of tables, and of rows.
 module _ (t : List ℕ) (cards : List (List ℕ)) where
   pub items-turn : (items : List ℕ) (i : ℕ) → i < length items
-      → links_marked t (links_over cards (drop i items)) ≡ links_marked (links_marked t (links_on cards (get_or items i 0))) (links_over cards (drop (i + 1) items))
+      → links_marked t (links_over cards (drop i items))
+      ≡ links_marked (links_marked t (links_on cards (get_or items i 0))) (links_over cards (drop (i + 1) items))
   unfolding links_over
-  items-turn items i h = rw (add-one i, drop-cons items i 0 h) (mark-append t (links_on cards (get_or items i 0)) (links_over cards (drop (suc i) items)))
+  items-turn items i h =
+      rw (add-one i, drop-cons items i 0 h) (mark-append t (links_on cards (get_or items i 0)) (links_over cards (drop (suc i) items)))
 
   pub items-end : (items : List ℕ) (i : ℕ) → length items ≤ i → links_marked t (links_over cards (drop i items)) ≡ t
   unfolding links_over links_marked
   items-end items i h = rw (drop_of_length-le items {i = i} h)
 
   pub rows-turn : (p : ℕ) → p < length cards
-      → links_marked t (flat (map links_in (drop p cards))) ≡ links_marked (links_marked t (links_in (get_or cards p []))) (flat (map links_in (drop (p + 1) cards)))
+      → links_marked t (flat (map links_in (drop p cards)))
+      ≡ links_marked (links_marked t (links_in (get_or cards p []))) (flat (map links_in (drop (p + 1) cards)))
   rows-turn p h = rw (add-one p, drop-cons cards p [] h) (mark-append t (links_in (get_or cards p [])) (flat (map links_in (drop (suc p) cards))))
 
   pub rows_end : (p : ℕ) → length cards ≤ p → links_marked t (flat (map links_in (drop p cards))) ≡ t
@@ -75,9 +78,6 @@ module _ {A : Type 0} (test : A → A → Bool) (xs : List A) where
   pub pairs-passes : {whole : Bool} (i : ℕ) (d : A) → i < length xs → whole ≡ pairs test (drop i xs)
       → all (test (get_or xs i d)) (drop (i + 1) xs) ≡ true → whole ≡ pairs test (drop (i + 1) xs)
   pairs-passes i d h inv t = inv ∙ pairs-turn i d h ∙ rw t
-
-  pub pairs-done : {whole : Bool} (i : ℕ) → length xs ≤ i → whole ≡ pairs test (drop i xs) → true ≡ whole
-  pairs-done i h inv = let none : drop i xs ≡ [] = drop_of_length-le xs {i = i} h in sym (inv ∙ rw none)
 
 -- All links of the tables, table after table.
 pub all-over : (test : Link → Bool) (cards : List (List ℕ)) (items : List ℕ)

@@ -1,5 +1,5 @@
 -- Cards, tables and links of the store that area and cards show, by the row and the bytes of a place.
-use Prim.Native.Nat.{ℕ, ◌+◌, ◌*◌, ◌/◌, ◌≤◌, ◌<◌}
+use Prim.Native.Nat.{ℕ, ◌/◌, ◌≤◌, ◌<◌}
 use mathlib.Core.Path.{◌≡◌, ap}
 use mathlib.Core.List.{List, []}
 use native.Mathlib.Omega.{arith}
@@ -38,6 +38,3 @@ module _ (area : List ℕ) (cards : List (List ℕ)) where
     pub table-shown : (p : ℕ) → p < length cards → table (shown_by area cards) p ≡ entries (place_of area p)
     unfolding table
     table-shown p h = ap entries (bytes-shown p h)
-
-    pub place-fits : (p : ℕ) → p < length cards → (p + 1) * place_size ≤ length area
-    place-fits p h = omega (arith, z.whole)

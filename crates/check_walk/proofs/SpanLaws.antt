@@ -1,15 +1,13 @@
 -- Spans: the least and the greatest end, one link after the other; and spans that rise, one table after the other.
-use Prim.Native.Nat.{ℕ, ◌+◌, ◌≤◌, ◌<◌, min, max}
+use Prim.Native.Nat.{ℕ, ◌+◌, ◌<◌, min, max}
 use mathlib.Core.Path.{◌≡◌, refl, sym, ◌∙◌, ap}
-use mathlib.Core.Bool.{Bool, true, false, not, ◌&&◌}
+use mathlib.Core.Bool.{Bool, true, false, ◌&&◌}
 use mathlib.Core.List.{List, [], ◌∷◌}
 use native.Mathlib.Omega.{arith}
 use native.Mathlib.Numerals.{add-one}
-use borrow.Author.Tests.{ltb-true, ltb-false, lt-leb, le-leb}
-use lib.Dec.{ltb, leb}
-use lib.ListN.{length, get_or, drop, drop_of_length-le}
+use lib.Dec.{ltb}
+use lib.ListN.{length, get_or, drop}
 use lib.Seq.{drop-cons}
-use Rattle.table.proofs.Tests.{cases}
 use Rattle.ldc.specs.Store.{Link, Store, least_end, greatest_end, span_start, span_end}
 use Rattle.ldc.specs.Rules.{spans_rise}
 use Rattle.check_walk.specs.Spans.{rises_from}
@@ -34,31 +32,19 @@ module _ (k : ℕ) (row : List ℕ) (j : ℕ) (h : j < length (links_in row)) wh
       ≡ greatest_end (max k (max (link_at row j).low (link_at row j).high)) (drop (j + 1) (links_in row))
   greatest-turn = rw (links-cons row j h) (greatest-first k (max (link_at row j).low (link_at row j).high) (drop (j + 1) (links_in row)))
 
-module _ (k : ℕ) (row : List ℕ) (j : ℕ) (h : length (links_in row) ≤ j) where
-  pub least-end : least_end k (drop j (links_in row)) ≡ k
-  least-end = rw (drop_of_length-le (links_in row) {i = j} h)
-
-  pub greatest-end : greatest_end k (drop j (links_in row)) ≡ k
-  greatest-end = rw (drop_of_length-le (links_in row) {i = j} h)
-
 -- ---- spans that rise
-
-pub ltb-leb : (a b : ℕ) → ltb a b ≡ not (leb b a)
-ltb-leb a b = cases (ltb a b) (λ q. rw (q, lt-leb b a (ltb-true a b q))) (λ q. rw (q, le-leb b a (ltb-false a b q)))
 
 pub rise-from : (s : Store) (p : ℕ) (ps : List ℕ) → spans_rise s (p ∷ ps) ≡ rises_from s (span_end s p) ps
 rise-from s p [] = refl
 rise-from s p (q ∷ ps) = rw (rise-from s q ps)
 
 module _ (s : Store) (items : List ℕ) where
-  pub rise-none : length items ≡ 0 → true ≡ spans_rise s items
-  rise-none h = let none : items ≡ [] = drop_of_length-le items {i = 0} (omega arith) in rw none
-
   pub rise-first : 0 < length items → spans_rise s items ≡ rises_from s (span_end s (get_or items 0 0)) (drop 1 items)
   rise-first h = ap (spans_rise s) (drop-cons items 0 0 h) ∙ rise-from s (get_or items 0 0) (drop 1 items)
 
   rise-turn : (i end : ℕ) → i < length items
-      → rises_from s end (drop i items) ≡ (ltb end (span_start s (get_or items i 0)) && rises_from s (span_end s (get_or items i 0)) (drop (i + 1) items))
+      → rises_from s end (drop i items)
+      ≡ (ltb end (span_start s (get_or items i 0)) && rises_from s (span_end s (get_or items i 0)) (drop (i + 1) items))
   rise-turn i end h = rw (add-one i, drop-cons items i 0 h)
 
   pub rise-fails : {whole : Bool} (i end : ℕ) → i < length items → whole ≡ rises_from s end (drop i items)
@@ -68,6 +54,3 @@ module _ (s : Store) (items : List ℕ) where
   pub rise-passes : {whole : Bool} (i end : ℕ) → i < length items → whole ≡ rises_from s end (drop i items)
       → ltb end (span_start s (get_or items i 0)) ≡ true → whole ≡ rises_from s (span_end s (get_or items i 0)) (drop (i + 1) items)
   rise-passes i end h inv t = inv ∙ rise-turn i end h ∙ rw t
-
-  pub rise-done : {whole : Bool} (i end : ℕ) → length items ≤ i → whole ≡ rises_from s end (drop i items) → true ≡ whole
-  rise-done i end h inv = let none : drop i items ≡ [] = drop_of_length-le items {i = i} h in sym (inv ∙ rw none)

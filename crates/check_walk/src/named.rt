@@ -12,15 +12,11 @@ use book::row::{Link, Row};
 pub fn mark_row(row: &Row, marks: &mut [u8])
     ensures { marks.new ≡ links_marked marks.old (links_in row.now) }
 {
-    let n = row::links_held(row);
-    let mut j = 0;
-    while j < n {
-        let l = row::link_at(row, j);
-        let p = l.place;
+    for j in 0..row::links_held(row) {
+        let p = row::link_at(row, j).place;
         if p < marks.len() {
             marks[p] = 1;
         }
-        j += 1;
     }
 }
 
@@ -29,11 +25,8 @@ pub fn mark_items(cards: &[Row], items: &[u16], marks: &mut [u8])
     requires { names_places (length cards.now) items.now ≡ true }
     ensures { marks.new ≡ links_marked marks.old (links_over cards.now items.now) }
 {
-    let mut i = 0;
-    while i < items.len() {
-        let p = items[i] as usize;
-        mark_row(&cards[p], marks);
-        i += 1;
+    for &p in items {
+        mark_row(&cards[usize::from(p)], marks);
     }
 }
 
@@ -41,24 +34,17 @@ pub fn mark_items(cards: &[Row], items: &[u16], marks: &mut [u8])
 fn link_unmarked(l: Link, marks: &[u8]) -> bool
     ensures { result ≡ unmarked marks.now (the_link l) }
 {
-    let p = l.place;
-    if p < marks.len() {
-        return marks[p] == 0;
-    }
-    true
+    marks.len() <= l.place || marks[l.place] == 0
 }
 
 // The same of all links of a row.
 fn row_unmarked(row: &Row, marks: &[u8]) -> bool
     ensures { result ≡ all (unmarked marks.now) (links_in row.now) }
 {
-    let n = row::links_held(row);
-    let mut j = 0;
-    while j < n {
+    for j in 0..row::links_held(row) {
         if !link_unmarked(row::link_at(row, j), marks) {
             return false;
         }
-        j += 1;
     }
     true
 }
@@ -68,13 +54,10 @@ pub fn items_unmarked(cards: &[Row], items: &[u16], marks: &[u8]) -> bool
     requires { names_places (length cards.now) items.now ≡ true }
     ensures { result ≡ all (unmarked marks.now) (links_over cards.now items.now) }
 {
-    let mut i = 0;
-    while i < items.len() {
-        let p = items[i] as usize;
-        if !row_unmarked(&cards[p], marks) {
+    for &p in items {
+        if !row_unmarked(&cards[usize::from(p)], marks) {
             return false;
         }
-        i += 1;
     }
     true
 }

@@ -27,15 +27,10 @@ fn measure(place: &[u8], last: Key, row: &Row) -> Span
 {
     let mut start = search::least(place);
     let mut end = last;
-    let n = row::links_held(row);
-    let mut j = 0;
-    while j < n {
+    for j in 0..row::links_held(row) {
         let l = row::link_at(row, j);
-        let low = l.low;
-        let high = l.high;
-        start = start.lesser(low.lesser(high));
-        end = end.greater(low.greater(high));
-        j += 1;
+        start = start.min(l.low.min(l.high));
+        end = end.max(l.low.max(l.high));
     }
     Span { start, end }
 }
@@ -55,21 +50,16 @@ pub fn rise(area: &[u8], cards: &[Row], ends: &[u64], items: &[u16]) -> bool
     requires { Readable area.now cards.now ends.now items.now }
     ensures { result ≡ spans_rise (shown_by area.now cards.now) items.now }
 {
-    if items.len() == 0 {
+    let [first, rest @ ..] = items else {
         return true;
-    }
-    let first = items[0] as usize;
-    let mut end = span_at(area, cards, ends, first).end;
-    let mut i = 1;
-    while i < items.len() {
-        let p = items[i] as usize;
-        let span = span_at(area, cards, ends, p);
-        let start = span.start;
-        if start.at_most(end) {
+    };
+    let mut end = span_at(area, cards, ends, usize::from(*first)).end;
+    for &p in rest {
+        let span = span_at(area, cards, ends, usize::from(p));
+        if span.start <= end {
             return false;
         }
         end = span.end;
-        i += 1;
     }
     true
 }

@@ -6,7 +6,8 @@ use mathlib.Core.List.{List, [], ◌∷◌, ◌++◌, append-nil, append_assoc}
 use native.Mathlib.Omega.{arith}
 use native.Mathlib.Nat.{suc-add, add-zero, zero-add}
 use lib.ListN.{length, get_or, set, take, drop, length-set, length-append, length-drop, take-append-drop}
-use lib.Seq.{sets, length-sets, length-take-le, take-nil, take_at, take-append_seam, take-set-le, drop_at, drop-drop, drop-length, drop-append-add, drop-append_seam, drop-set-lt, get_or-set_same, get_or-set_other, set_comm, set-set, set-append_left, sets-eq}
+use lib.Seq.{sets, length-sets, length-take-le, take-nil, take_at, take-append_seam, take-set-le, drop_at, drop-drop, drop-length, sets-eq}
+use lib.Seq.{drop-append-add, drop-append_seam, drop-set-lt, get_or-set_same, get_or-set_other, set_comm, set-set, set-append_left}
 
 module _ {ℓ} {A : Type ℓ} where
   -- What stands before a run is not changed by it.

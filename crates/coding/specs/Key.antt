@@ -1,15 +1,13 @@
 -- Keys (document 01): line number (24 bits) times 2^40 plus distance in millimetres (40 bits).
-use Rattle.std.specs.Prelude.{ℕ, ◌+◌, ◌*◌, ◌/◌, ◌%◌, ◌^◌, cond, ◌&&◌, ltb}
+use Rattle.std.specs.Prelude.{ℕ, ◌+◌, ◌*◌, ◌/◌, ◌%◌, ◌^◌, cond, ◌&&◌, ltb, Option, Some, None}
 use Rattle.coding.specs.declared.key.Key.{Key}
-use Rattle.coding.specs.declared.key.Built.{Built}
-use Rattle.coding.specs.declared.key.Built.TheVariants.{Whole, Refused}
 
 -- A line and a distance that fit their bits make a key; others are refused.
-unfoldable pub key_of : (line distance : ℕ) → Built
+unfoldable pub key_of : (line distance : ℕ) → Option Key
 key_of line distance =
     cond (ltb line (2 ^ 24) && ltb distance (2 ^ 40))
-    (Whole (record { value = line * 2 ^ 40 + distance }))
-    Refused
+    (Some (record { value = line * 2 ^ 40 + distance }))
+    None
 
 -- The line number in a key.
 abbrev pub line_of : (key : ℕ) → ℕ

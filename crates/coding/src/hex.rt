@@ -26,9 +26,7 @@ pub fn put_bytes(out: &mut [u8], bytes: &[u8])
     requires { 3 * length bytes.now ≤ length out.old }
     ensures { out.new ≡ sets out.old 0 (bytes_text bytes.now) }
 {
-    let mut i = 0;
-    while i < bytes.len() {
-        put_byte(out, 3 * i, bytes[i]);
-        i += 1;
+    for (i, &b) in bytes.iter().enumerate() {
+        put_byte(out, 3 * i, b);
     }
 }

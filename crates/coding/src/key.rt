@@ -1,7 +1,7 @@
 // The key of an entry: 64 bits, line number (24 bits) times 2^40 plus distance in millimetres (40 bits).
 //
 // The store compares whole keys, so the least key and the greatest are ordinary ones.
-ghost use Rattle.std.specs.Prelude.{◌≡◌, ◌<◌, min, max, ltb, leb, eqb};
+ghost use Rattle.std.specs.Prelude.{◌≡◌, ◌<◌};
 ghost use Rattle.coding.specs.Key.{lines, distances, key_on, key_of, line_of, distance_of};
 
 // As many line numbers as 24 bits tell apart.
@@ -10,18 +10,10 @@ pub const LINES: u32 = 16777216;
 // As many distances as 40 bits tell apart.
 pub const DISTANCES: u64 = 1099511627776;
 
-// A key is the number and nothing else, so that every 64-bit number is one.
-#[derive(Clone, Copy)]
+// A key is the number and nothing else, so that every 64-bit number is one. Keys are equal and ordered as their numbers are.
+#[derive(Clone, Copy, PartialEq, Eq, PartialOrd, Ord)]
 pub struct Key {
     pub value: u64,
-}
-
-// What building a key from a line and a distance gives.
-#[derive(Clone, Copy)]
-pub enum Built {
-    Whole(Key),
-    // The line has more than 24 bits, or the distance more than 40.
-    Refused,
 }
 
 impl Key {
@@ -33,18 +25,16 @@ impl Key {
         value: 18446744073709551615,
     };
 
-    // The key of a place in a line, distance in millimetres; what does not fit is refused.
-    pub fn of(line: u32, distance: u64) -> Built
+    // The key of a place in a line, distance in millimetres; none where the line has more than 24 bits, or the distance more than 40.
+    #[tactic(auto, unfolding(crate::specs::Key::key_of))]
+    pub fn of(line: u32, distance: u64) -> Option<Key>
         ensures { result ≡ key_of line distance }
     {
-        if line < LINES {
-            if distance < DISTANCES {
-                return Built::Whole(Key {
-                    value: (line as u64) * DISTANCES + distance,
-                });
-            }
+        if line < LINES && distance < DISTANCES {
+            Some(Key::on(line, distance))
+        } else {
+            None
         }
-        Built::Refused
     }
 
     // The key of a place in a line, distance in millimetres, where both fit.
@@ -69,48 +59,5 @@ impl Key {
         ensures { result ≡ distance_of self.value }
     {
         self.value % DISTANCES
-    }
-
-    // Is this key below the other?
-    pub fn below(self, other: Key) -> bool
-        ensures { result ≡ ltb self.value other.value }
-    {
-        self.value < other.value
-    }
-
-    // Is this key the other, or below it?
-    pub fn at_most(self, other: Key) -> bool
-        ensures { result ≡ leb self.value other.value }
-    {
-        self.value <= other.value
-    }
-
-    // Is this key the other?
-    pub fn same(self, other: Key) -> bool
-        ensures { result ≡ eqb self.value other.value }
-    {
-        self.value == other.value
-    }
-
-    // The lesser of two keys.
-    pub fn lesser(self, other: Key) -> Key
-        ensures { result.value ≡ min self.value other.value }
-    {
-        if self.value < other.value {
-            self
-        } else {
-            other
-        }
-    }
-
-    // The greater of two keys.
-    pub fn greater(self, other: Key) -> Key
-        ensures { result.value ≡ max self.value other.value }
-    {
-        if self.value < other.value {
-            other
-        } else {
-            self
-        }
     }
 }

@@ -5,23 +5,14 @@ ghost use Rattle.std.specs.Prelude.{◌≡◌, ◌+◌, ◌≤◌, length};
 ghost use Rattle.std.proofs.lemmas.List.Edits.{sets};
 ghost use Rattle.coding.specs.Number.{number_at, bytes_of};
 
-// A byte as a wide number.
-fn wide(b: u8) -> u64
-    ensures { result ≡ b }
-{
-    b as u64
-}
-
 // The number in the `width` bytes from `at` on, the lowest byte first.
 pub fn get(s: &[u8], at: usize, width: usize) -> u64
     requires { (width ≤ 8) × (at + width ≤ length s.now) }
     ensures { result ≡ number_at width s.now at }
 {
-    let mut left = width;
     let mut n: u64 = 0;
-    while 0 < left {
-        left -= 1;
-        n = n * 256 + wide(s[at + left]);
+    for i in (0..width).rev() {
+        n = n * 256 + u64::from(s[at + i]);
     }
     n
 }
@@ -31,12 +22,10 @@ pub fn put(s: &mut [u8], at: usize, width: usize, n: u64)
     requires { at + width ≤ length s.old }
     ensures { s.new ≡ sets s.old at (bytes_of width n) }
 {
-    let mut i = 0;
     let mut rest = n;
-    while i < width {
+    for i in 0..width {
         s[at + i] = (rest % 256) as u8;
-        rest = rest / 256;
-        i += 1;
+        rest /= 256;
     }
 }
 
@@ -69,7 +58,7 @@ pub fn put_u16(s: &mut [u8], at: usize, n: u16)
     requires { at + 2 ≤ length s.old }
     ensures { s.new ≡ sets s.old at (bytes_of 2 n) }
 {
-    put(s, at, 2, n as u64);
+    put(s, at, 2, u64::from(n));
 }
 
 // Writes a number of four bytes.
@@ -77,7 +66,7 @@ pub fn put_u32(s: &mut [u8], at: usize, n: u32)
     requires { at + 4 ≤ length s.old }
     ensures { s.new ≡ sets s.old at (bytes_of 4 n) }
 {
-    put(s, at, 4, n as u64);
+    put(s, at, 4, u64::from(n));
 }
 
 // Writes a number of eight bytes.

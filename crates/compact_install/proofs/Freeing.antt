@@ -77,29 +77,15 @@ places-end row i k h =
 -- One turn: this place is freed or not, by its flag.
 pub freed-turn : (held : List Bool) (row : List ℕ) (rows : List (List ℕ)) (i : ℕ) → Clear row → i < link_count row → i < length held
     → freed_in (drop i held) (drop i (places_named row)) rows
-    ≡ freed_in (drop (i + 1) held) (drop (i + 1) (places_named row)) (cond (get_or held i false) rows (set rows (link_at row i).place (row_with free (zeros summary_words))))
+    ≡ freed_in (drop (i + 1) held) (drop (i + 1) (places_named row))
+    (cond (get_or held i false) rows (set rows (link_at row i).place (row_with free (zeros summary_words))))
 freed-turn held row rows i k h l = rw (places-turn row i k h, drop-cons held i false l, ← add-one i)
 
 pub freed-end : (held : List Bool) (row : List ℕ) (rows : List (List ℕ)) (i : ℕ) → Clear row → link_count row ≤ i
     → freed_in (drop i held) (drop i (places_named row)) rows ≡ rows
 freed-end held row rows i k h = rw (places-end row i k h)
 
-pub length-freed : (b : Bool) (f : ℕ) (rows : List (List ℕ)) → length (cond b rows (set rows f (row_with free (zeros summary_words)))) ≡ length rows
-length-freed b f rows = cases b (λ q. rw q) (λ q. rw (q, length-set))
-
--- No flag set yet, and one flag more.
-abbrev falses : ℕ → List Bool
-falses zero = []
-falses (suc n) = false ∷ falses n
-
-falses-at : (n j : ℕ) → get_or (falses n) j false ≡ false
-falses-at zero j = refl
-falses-at (suc n) zero = refl
-falses-at (suc n) (suc j) = falses-at n j
-
-pub flags-none : (test : ℕ → Bool) (j : ℕ) → get_or (falses link_limit) j false ≡ (ltb j 0 && test j)
-flags-none test j = rw (le-ltb j 0 (omega arith)) (falses-at link_limit j)
-
+-- One flag more.
 pub flags-turn : (test : ℕ → Bool) (flags : List Bool) (i : ℕ) (b : Bool) → i < length flags → b ≡ test i
     → ((j : ℕ) → get_or flags j false ≡ (ltb j i && test j)) → (j : ℕ) → get_or (set flags i b) j false ≡ (ltb j (i + 1) && test j)
 flags-turn test flags i b l e h j =

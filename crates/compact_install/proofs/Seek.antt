@@ -1,5 +1,5 @@
 -- The search of a level for the tables whose links name a place: spans rise, so only those whose spans meet its keys are to be asked.
-use Prim.Native.Nat.{ℕ, zero, suc, ◌+◌, ◌≤◌, ◌<◌}
+use Prim.Native.Nat.{ℕ, zero, suc, ◌+◌, ◌-◌, ◌≤◌, ◌<◌}
 use mathlib.Core.Path.{◌≡◌, refl, ◌∙◌, ap}
 use mathlib.Core.Bool.{Bool, true, false, not, ◌&&◌, ◌||◌}
 use mathlib.Core.List.{List, [], ◌∷◌}
@@ -7,8 +7,8 @@ use native.Mathlib.Omega.{arith}
 use native.Mathlib.Numerals.{add-one}
 use borrow.Author.Tests.{eqb-true, eqb-false, ltb-true}
 use lib.Dec.{eqb, ltb}
-use lib.ListN.{length, get_or, set, drop, drop_of_length-le}
-use lib.Seq.{drop-cons, get_or-set_same, get_or-set_other}
+use lib.ListN.{length, get_or, set, take, drop, length-drop, drop_of_length-le}
+use lib.Seq.{drop-cons, get_or-drop, take_all, get_or-set_same, get_or-set_other}
 use Rattle.coding.specs.Number.{Bytes}
 use Rattle.table.specs.Table.{entries, place_of, zeros}
 use Rattle.table.specs.Search.{least_key, greatest_key}
@@ -63,10 +63,21 @@ none-names : (f : ℕ) → row_names f [] ≡ false
 unfolding row_names card_of state_of
 none-names f = refl
 
+-- ---- the items from one on, as the code takes them
+
+part-all : (items : List ℕ) (i : ℕ) → take (length items - i) (drop i items) ≡ drop i items
+part-all items i = take_all (length items - i) (drop i items) (rw length-drop (omega arith))
+
+part-near : (items : List ℕ) (i k : ℕ) → k < length (take (length items - i) (drop i items)) → i + k < length items
+part-near items i k h = omega (arith, rw part-all at h, length-drop i items)
+
+part-item : (items : List ℕ) (i k : ℕ) → get_or (take (length items - i) (drop i items)) k 0 ≡ get_or items (i + k) 0
+part-item items i k = rw (part-all items i) (get_or-drop i items k 0)
+
 -- ---- in lent pieces
 
 module _ (p f : ℕ) (cards : List (List ℕ)) (items : List ℕ) where
-  pub held-turn : (j : ℕ) → j < length items
+  held-turn : (j : ℕ) → j < length items
       → held_among p f cards (drop j items)
       ≡ ((not (eqb (get_or items j 0) p) && row_names f (get_or cards (get_or items j 0) [])) || held_among p f cards (drop (j + 1) items))
   unfolding held_among
@@ -75,6 +86,16 @@ module _ (p f : ℕ) (cards : List (List ℕ)) (items : List ℕ) where
   pub held-end : (j : ℕ) → length items ≤ j → held_among p f cards (drop j items) ≡ false
   unfolding held_among
   held-end j h = let none : drop j items ≡ [] = drop_of_length-le items {i = j} h in rw none
+
+  -- One turn of the loop over the tables from the i-th on, at the k-th of these: it holds the place, or one behind it does.
+  pub held-step : (i k q : ℕ) (names : Bool) → k < length (take (length items - i) (drop i items))
+      → q ≡ get_or (take (length items - i) (drop i items)) k 0 → names ≡ row_names f (get_or cards q [])
+      → held_among p f cards (drop (i + k) items) ≡ ((not (eqb q p) && names) || held_among p f cards (drop (i + (k + 1)) items))
+  held-step i k q names h qe ne =
+      let near : i + k < length items = part-near items i k h in
+      let here : q ≡ get_or items (i + k) 0 = qe ∙ part-item items i k in
+      let next : i + k + 1 ≡ i + (k + 1) = omega arith in
+      rw (ne, here, ← next) (held-turn (i + k) near)
 
 module _ (area : List ℕ) (cards : List (List ℕ)) (items : List ℕ) (p f : ℕ) (so : Sought area cards items f) where
   abbrev test : ℕ → Bool
@@ -110,7 +131,7 @@ module _ (area : List ℕ) (cards : List (List ℕ)) (items : List ℕ) (p f : �
       ∙ any-front (shown_by area cards) (least_key (entries (place_of area f))) test items (λ q h. so.reaches q (named-test q h))
 
   -- Behind a table with a least key above all keys of the place none does.
-  pub held-stop : Bytes area → (j : ℕ) → j < length items
+  held-stop : Bytes area → (j : ℕ) → j < length items
       → greatest_key (entries (place_of area f)) < least_key (entries (place_of area (get_or items j 0)))
       → held_among p f cards (drop (j + 1) items) ≡ false
   unfolding held_among
@@ -121,3 +142,13 @@ module _ (area : List ℕ) (cards : List (List ℕ)) (items : List ℕ) (p f : �
       (spans-behind s 0 items j (spans area cards items b so.legible so.rising) h)
       (omega (arith, above, (least-within area cards items b so.legible so.rising j h).1))
       (λ q t. so.starts q (named-test q t)))
+
+  -- The same of the k-th of the tables from the i-th on.
+  pub held-past : Bytes area → (i k q : ℕ) → k < length (take (length items - i) (drop i items))
+      → q ≡ get_or (take (length items - i) (drop i items)) k 0
+      → greatest_key (entries (place_of area f)) < least_key (entries (place_of area q))
+      → held_among p f cards (drop (i + (k + 1)) items) ≡ false
+  held-past b i k q h qe above =
+      let here : q ≡ get_or items (i + k) 0 = qe ∙ part-item items i k in
+      let next : i + k + 1 ≡ i + (k + 1) = omega arith in
+      rw (← next) (held-stop b (i + k) (part-near items i k h) (rw here at above))

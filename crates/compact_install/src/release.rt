@@ -1,9 +1,5 @@
 // Freeing the frozen places that no link names any more: which these are is decided before the merge, by a search of the level.
-ghost use Rattle.std.specs.Prelude.{◌≡◌, cond, [], ◌≤◌, ◌<◌, length, get_or, set, drop};
-ghost use Rattle.ldc.specs.Store.{free};
-ghost use Rattle.table.specs.Table.{zeros};
-ghost use Rattle.summary.specs.Summary.{summary_words};
-ghost use Rattle.ldc.specs.Layout.{row_with};
+ghost use Rattle.std.specs.Prelude.{◌≡◌, [], ◌≤◌, ◌<◌, length, get_or, drop};
 ghost use Rattle.compact_install.specs.Release.{row_names, held_in, held_among, places_named, Flags, freed_in, Clear, Names, Sought, SoughtAll};
 
 use book::limits::LINK_LIMIT;
@@ -16,14 +12,10 @@ fn row_names(cards: &[Row], q: usize, f: usize) -> bool
     requires { (q < length cards.now) × Clear (get_or cards.now q []) }
     ensures { result ≡ row_names f (get_or cards.now q []) }
 {
-    let n = row::link_count(&cards[q]) as usize;
-    let mut i = 0;
-    while i < n {
-        let link = row::link_at(&cards[q], i);
-        if link.place == f {
+    for i in 0..row::link_count(&cards[q]) as usize {
+        if row::link_at(&cards[q], i).place == f {
             return true;
         }
-        i += 1;
     }
     false
 }
@@ -35,16 +27,14 @@ fn is_held_from(area: &[u8], cards: &[Row], items: &[u16], i: usize, p: usize, f
     ensures { result ≡ held_among p f cards.now (drop i items.now) }
 {
     let last = place::greatest(area, f);
-    let mut j = i;
-    while j < items.len() {
-        let q = items[j] as usize;
+    for &q in &items[i..] {
+        let q = usize::from(q);
         if (q != p) & row_names(cards, q, f) {
             return true;
         }
-        if last.below(place::least(area, q)) {
+        if last < place::least(area, q) {
             return false;
         }
-        j += 1;
     }
     false
 }
@@ -63,26 +53,12 @@ pub fn find_held(area: &[u8], cards: &[Row], items: &[u16], p: usize) -> [bool; 
     requires { SoughtAll area.now cards.now items.now p }
     ensures { Flags cards.now p result }
 {
-    let n = row::link_count(&cards[p]) as usize;
     let mut held = [false; LINK_LIMIT];
-    let mut i = 0;
-    while i < n {
+    for i in 0..row::link_count(&cards[p]) as usize {
         let link = row::link_at(&cards[p], i);
         held[i] = is_held(area, cards, items, p, link.place);
-        i += 1;
     }
     held
-}
-
-// Frees place f, unless it is held.
-fn release_one(cards: &mut [Row], f: usize, held: bool)
-    requires { f < length cards.old }
-    ensures { cards.new ≡ cond held cards.old (set cards.old f (row_with free (zeros summary_words))) }
-{
-    if held {
-        return;
-    }
-    row::free(cards, f);
 }
 
 // Of the places that the links of this row named, frees those that no other table holds.
@@ -90,11 +66,9 @@ pub fn release(cards: &mut [Row], row: Row, held: [bool; LINK_LIMIT])
     requires { Names row (length cards.old) }
     ensures { cards.new ≡ freed_in held (places_named row) cards.old }
 {
-    let n = row::link_count(&row) as usize;
-    let mut i = 0;
-    while i < n {
-        let link = row::link_at(&row, i);
-        release_one(cards, link.place, held[i]);
-        i += 1;
+    for i in 0..row::link_count(&row) as usize {
+        if !held[i] {
+            row::free(cards, row::link_at(&row, i).place);
+        }
     }
 }

@@ -25,16 +25,14 @@ pub fn write_all(
 {
     let old = p as u16;
     let mut taken = [0u16; MERGE_TABLES];
-    let mut i = 0;
     let mut noted = head;
-    while i < k {
+    for i in 0..k {
         let start = i * limits::PLACE_SIZE;
         let end = start + limits::PLACE_SIZE;
         let new = write::write_table(area, cards, noted, &out[start..end]);
         let place = new.place as u16;
         taken[i] = place;
         noted = new.head;
-        i += 1;
     }
     level::replace(lists, cards.len(), noted, n, old, &taken[..k])
 }

@@ -1,5 +1,5 @@
 -- One turn of the loop that hangs slices: a link more on the responsible table, and what is left to hang is what the tables behind it take.
-use Prim.Native.Nat.{ℕ, suc, ◌+◌, ◌-◌, ◌≤◌, ◌<◌}
+use Prim.Native.Nat.{ℕ, suc, ◌+◌, ◌-◌, ◌≤◌, ◌<◌, ◌^◌}
 use mathlib.Core.Path.{◌≡◌, refl, sym, ◌∙◌, ap}
 use mathlib.Core.List.{List, []}
 use native.Mathlib.Omega.{arith}
@@ -8,9 +8,9 @@ use lib.ListN.{length, get_or, take, drop, length-set, length-drop, drop_of_leng
 use lib.Seq.{take_all, drop-drop}
 use Rattle.coding.specs.Number.{Bytes}
 use Rattle.table.specs.Entry.{Entry, key_at, entry_at}
-use Rattle.table.specs.Table.{entries}
+use Rattle.table.specs.Table.{entries, place_of}
 use Rattle.table.specs.Search.{seek_in, shown}
-use Rattle.table.specs.declared.search.Found.TheVariants as found
+use Rattle.std.specs.Prelude as code
 use Rattle.table.proofs.Found.{shown-seek, entry_at-key}
 use Rattle.table.specs.Valid.{Keys}
 use Rattle.ldc.specs.Store.{Store}
@@ -18,6 +18,7 @@ use Rattle.ldc.specs.Tidy.{Slice, greatest}
 use Rattle.ldc.specs.Facts.{Spans}
 use Rattle.read.specs.Shown.{Tabled}
 use Rattle.read.proofs.Rank.{all-readable}
+use Rattle.read.proofs.Shows.{place-valid}
 use Rattle.compact_link.specs.Range.{keeper, high_of, slice_at, slices_from, hung_row, hung_rows, Hosts}
 use Rattle.compact_link.proofs.Slices.{Next, Spent, spent-of, next_of, keys-member, keeper-few, high-other, slices-nil, slices-spent, slices-met, end-room}
 use Rattle.compact_link.proofs.Rows.{hung-below, hung-slices}
@@ -26,17 +27,17 @@ use Rattle.book.specs.Rows.{shown_by}
 -- ---- what a search of a table says
 
 module _ (s : List ℕ) (from : ℕ) where
-  pub seek-spent : seek_in s from ≡ found.Nothing → Spent from (entries s)
+  pub seek-spent : seek_in s from ≡ code.None → Spent from (entries s)
   unfolding shown
   seek-spent h = spent-of from (entries s) (sym (shown-seek s from) ∙ ap (shown s) h)
 
-  pub seek-next : (at key lo hi : ℕ) → Keys lo hi (entries s) → seek_in s from ≡ found.At at → key ≡ key_at s at → Next from key (entries s)
+  seek-next : (at key lo hi : ℕ) → Keys lo hi (entries s) → seek_in s from ≡ code.Some at → key ≡ key_at s at → Next from key (entries s)
   unfolding shown
   seek-next at key lo hi h f k =
       rw (k ∙ sym (entry_at-key s at)) (next_of from lo hi (entries s) (entry_at s at) h (sym (shown-seek s from) ∙ ap (shown s) f))
 
 -- What is found from a point on is a key.
-pub next-bound : (from k lo hi : ℕ) (es : List Entry) → Keys lo hi es → Next from k es → k < hi
+next-bound : (from k lo hi : ℕ) (es : List Entry) → Keys lo hi es → Next from k es → k < hi
 next-bound from k lo hi es h n = omega (arith, n.holds.1.1, (keys-member lo hi es n.holds.0 h n.holds.1.0).1)
 
 -- The items from one on, as the code takes them.
@@ -103,7 +104,7 @@ module _ (area : List ℕ) (cards cards' : List (List ℕ)) (qs : List ℕ) (es 
       (end-room (shown_by area cards) from qs at (all-readable area cards qs bytes b.legible b.rising) b.spans (omega (arith, few)))
 
 -- A turn over the tables from one on.
-pub turned : (area : List ℕ) (cards cards' : List (List ℕ)) (items part : List ℕ) (es : List Entry) (p from first k at high : ℕ) → Bytes area
+turned : (area : List ℕ) (cards cards' : List (List ℕ)) (items part : List ℕ) (es : List Entry) (p from first k at high : ℕ) → Bytes area
     → part ≡ drop first items → first < length items → Hosts area cards from (drop first items) → Tabled area p → Next from k es → k ≤ greatest
     → at ≡ keeper (shown_by area cards) k part → high ≡ high_of (shown_by area cards) part at
     → cards' ≡ hung_row es (slice_at (shown_by area cards) p from part at) cards
@@ -126,3 +127,19 @@ turned area cards cards' items part es p from first k at high bytes pe l b t met
       left = rw (← next, ← high1) (turn-left area cards cards' qs es p from k at high bytes b some' t met key ae' he' ce');
       room = λ n. turn-room area cards cards' qs es p from k at high bytes b some' t met key ae' he' ce' (λ e. n (omega arith));
     }
+
+-- A turn of the loop: the search gave the next entry, and a slice was hung on the table that is responsible for its key.
+pub hung-turn : (area : List ℕ) (cards cards' : List (List ℕ)) (items : List ℕ) (p from first spot k at high : ℕ) → Bytes area
+    → first < length items → Hosts area cards from (drop first items) → Tabled area p
+    → seek_in (place_of area p) from ≡ code.Some spot → k ≡ key_at (place_of area p) spot
+    → at ≡ keeper (shown_by area cards) k (take (length items - first) (drop first items))
+    → high ≡ high_of (shown_by area cards) (take (length items - first) (drop first items)) at
+    → cards' ≡ hung_row (entries (place_of area p)) (slice_at (shown_by area cards) p from (take (length items - first) (drop first items)) at) cards
+    → Turned area cards cards' items (entries (place_of area p)) p from first at high
+hung-turn area cards cards' items p from first spot k at high bytes l b t f ke ae he ce =
+    let es : List Entry = entries (place_of area p) in
+    let keys = (place-valid area p bytes t).keys in
+    let n = seek-next (place_of area p) from spot k 0 (2 ^ 64) keys f ke in
+    let small = next-bound from k 0 (2 ^ 64) es keys n in
+    turned area cards cards' items (take (length items - first) (drop first items)) es p from first k at high bytes (rest-items items first)
+    l b t n (omega (arith, small)) ae he ce

@@ -9,7 +9,6 @@ use book::row;
 use book::row::{Link, Row};
 use coding::key::Key;
 use read::place;
-use table::search::Found;
 
 // Which of the tables gained a link, and to where it is responsible.
 #[derive(Clone, Copy)]
@@ -51,7 +50,7 @@ fn hang_all(area: &[u8], cards: &mut [Row], items: &[u16], p: usize)
     let mut first = 0;
     let mut from = Key::LEAST;
     while first < items.len() {
-        let Found::At(at) = place::seek(area, p, from) else {
+        let Some(at) = place::seek(area, p, from) else {
             return;
         };
         let key = place::key_of(area, p, at);

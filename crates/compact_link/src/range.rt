@@ -7,12 +7,12 @@ use coding::key::Key;
 use read::level;
 
 // The table that is responsible for a key: the first whose span does not end below it, or else the last.
+#[tactic(auto, unfolding(crate::specs::Range::keeper))]
 pub fn keeper_of(area: &[u8], cards: &[Row], items: &[u16], key: Key) -> usize
     requires { Among area.now cards.now items.now 0 }
     ensures { result ≡ keeper (seen area.now cards.now) key.value items.now }
 {
-    let i = level::count_passed(area, cards, items, key);
-    if i < items.len() { i } else { items.len() - 1 }
+    level::count_passed(area, cards, items, key).min(items.len() - 1)
 }
 
 // From where the i-th table is responsible: one above the previous span's end, for the first from the key given.

@@ -32,7 +32,8 @@ module _ (area : List ℕ) (cards : List (List ℕ)) (lists head : List ℕ) (k 
 
   pub held-end : (n : ℕ) → level_count ≤ n → held_from n ≡ false
   unfolding store_of
-  held-end n h = let none : drop n (store_in area cards lists head).levels ≡ [] = drop_of_length-le (store_in area cards lists head).levels {i = n} h in rw none
+  held-end n h =
+      let none : drop n (store_in area cards lists head).levels ≡ [] = drop_of_length-le (store_in area cards lists head).levels {i = n} h in rw none
 
   -- Spans are those that area and cards show, lists those of the lent pieces.
   same-spans : (ps : List ℕ) → any (λ p. span_holds (store_in area cards lists head) p k) ps ≡ any (λ p. span_holds (shown_by area cards) p k) ps

@@ -14,11 +14,13 @@ use Rattle.compact_merge.proofs.Merged.{merged-rising, merged-values, tables-cut
 
 -- The tables that come out of a merge do not depend on the memory table.
 pub tables-shown : (m : Lent) (n p : ℕ) → merged_tables (store_of m) n p ≡ tables_out m.area m.cards m.lists m.head n p
-unfolding merged_tables merged_entries comes_out drops_mark lower_tables span_holds span_start span_end sources slice table links card bytes_at store_of level_of
+unfolding merged_tables merged_entries comes_out drops_mark lower_tables span_holds span_start span_end sources slice table links card
+    bytes_at store_of level_of
 tables-shown m n p = refl
 
 module _ (area : List ℕ) (cards : List (List ℕ)) (g : Legible area cards) (b : Bytes area) (lists head : List ℕ) (n p : ℕ) (t : Tabled area p) where
   -- Each is a valid table with an entry.
   pub tables-valid : (es : List Entry) → Memᴰ es (tables_out area cards lists head n p) → Piece es
   tables-valid es m =
-      cut-pieces (merged_in area cards lists head n p) (merged-rising area cards g b lists head n p t) (merged-values area cards g b lists head n p t) es (rw (tables-cut area cards lists head n p) at m)
+      cut-pieces (merged_in area cards lists head n p) (merged-rising area cards g b lists head n p t)
+      (merged-values area cards g b lists head n p t) es (rw (tables-cut area cards lists head n p) at m)

@@ -1,4 +1,5 @@
--- The entries that come out of a merge are rising, valid and at most as many as are read, so that at most `merge_tables` tables come out; and the tables, one by one.
+-- The entries that come out of a merge are rising, valid and at most as many as are read, so that at most `merge_tables` tables come out; and the
+-- tables, one by one.
 use Prim.Native.Nat.{ℕ, ◌*◌, zero, suc, ◌≤◌, ◌^◌}
 use mathlib.Core.Path.{◌≡◌, refl, ap}
 use mathlib.Core.Bool.{Bool}
@@ -58,7 +59,8 @@ piece-long es k v h =
 
 -- ---- what comes out
 
-pub tables-cut : (area : List ℕ) (cards : List (List ℕ)) (lists head : List ℕ) (n p : ℕ) → tables_out area cards lists head n p ≡ cut (merged_in area cards lists head n p)
+pub tables-cut : (area : List ℕ) (cards : List (List ℕ)) (lists head : List ℕ) (n p : ℕ)
+    → tables_out area cards lists head n p ≡ cut (merged_in area cards lists head n p)
 unfolding merged_tables
 tables-cut area cards lists head n p = refl
 

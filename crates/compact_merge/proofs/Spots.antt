@@ -21,10 +21,12 @@ module _ (bytes spots : List ℕ) (n : ℕ) (s : Stand bytes spots n) where
 
   -- One more of the entries from one on.
   pub spot-more : (from i : ℕ) → from + i < n
-      → take (i + 1) (drop from (standing bytes spots n)) ≡ take i (drop from (standing bytes spots n)) ++ entry_at bytes (get_or spots (from + i) 0) ∷ []
+      → take (i + 1) (drop from (standing bytes spots n)) ≡ take i (drop from (standing bytes spots n))
+      ++ entry_at bytes (get_or spots (from + i) 0) ∷ []
   spot-more from i h =
       let es : List Entry = drop from (standing bytes spots n) in
       let d : Entry = entry_at bytes 0 in
       let this : get_or es i d ≡ entry_at bytes (get_or spots (from + i) 0) =
-      get_or-drop from (standing bytes spots n) i d ∙ get_or-map (entry_at bytes) (take n spots) (from + i) 0 ∙ ap (entry_at bytes) (get_or-take n spots (from + i) 0 h) in
+      get_or-drop from (standing bytes spots n) i d ∙ get_or-map (entry_at bytes) (take n spots) (from + i) 0
+      ∙ ap (entry_at bytes) (get_or-take n spots (from + i) 0 h) in
       rw (add-one i, sym this) (take-suc es i d (omega (arith, length-drop from (standing bytes spots n), standing-long)))

@@ -1,5 +1,5 @@
 // Which of the gathered entries come out of a merge. A spot is the position of an entry's first byte in the area.
-ghost use Rattle.std.specs.Prelude.{◌≡◌, cond, ◌≤◌, ◌<◌, length, take};
+ghost use Rattle.std.specs.Prelude.{◌≡◌, ◌≤◌, ◌<◌, length, take};
 ghost use Rattle.table.specs.Entry.{Entry, entry_at};
 ghost use Rattle.ldc.specs.Layout.{level_count};
 ghost use Rattle.ldc.specs.Tidy.{drops_mark, comes_out};
@@ -22,13 +22,11 @@ fn drops_mark(area: &[u8], cards: &[Row], lists: &[u16], head: Head, n: usize, k
     requires { Levels area.now cards.now lists.now (head_words head) × (n < level_count) }
     ensures { (mark : Entry) → mark.key ≡ key.value → result ≡ drops_mark (store_held area cards lists head) n mark }
 {
-    let mut below = n + 1;
-    while below < LEVELS {
+    for below in n + 1..LEVELS {
         let items = list::items(lists, cards.len(), head.length_of(below), below);
         if level::holds(area, cards, items, key) {
             return false;
         }
-        below += 1;
     }
     true
 }
@@ -42,18 +40,6 @@ fn comes_out(area: &[u8], cards: &[Row], lists: &[u16], head: Head, n: usize, at
         return true;
     }
     !drops_mark(area, cards, lists, head, n, entry::key_at(area, at))
-}
-
-// One if it does, and else nought.
-fn one_out(area: &[u8], cards: &[Row], lists: &[u16], head: Head, n: usize, at: usize) -> usize
-    requires { Levels area.now cards.now lists.now (head_words head) × ((n < level_count) × SeatedIn area.now at) }
-    ensures { result ≡ cond (comes_out (store_held area cards lists head) n (entry_at area.now at)) 1 0 }
-{
-    if comes_out(area, cards, lists, head, n, at) {
-        1
-    } else {
-        0
-    }
 }
 
 // Moves the spots of the entries that come out of a merge on level n to the front of the first `used`; how many they are.
@@ -71,12 +57,12 @@ pub fn sift(
     ensures { Sifted (comes_out (store_held area cards lists head) n) area.now spots.old used spots.new result }
 {
     let mut kept = 0;
-    let mut i = 0;
-    while i < used {
+    for i in 0..used {
         let spot = spots[i];
-        spots[kept] = spot;
-        kept += one_out(area, cards, lists, head, n, spot as usize);
-        i += 1;
+        if comes_out(area, cards, lists, head, n, spot as usize) {
+            spots[kept] = spot;
+            kept += 1;
+        }
     }
     kept
 }

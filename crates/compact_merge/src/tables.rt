@@ -38,15 +38,9 @@ fn fill_table(to: &mut [u8], area: &[u8], spots: &[u64], from: usize, n: usize)
     ensures { to.new ≡ table_bytes (take table_limit (drop from (standing_in area spots n))) }
 {
     place::clear(to);
-    let mut i = 0;
-    while i < limits::TABLE_LIMIT {
-        let at = from + i;
-        if n <= at {
-            return;
-        }
-        let spot = spots[at] as usize;
-        append::append_from(to, area, spot);
-        i += 1;
+    let end = n.min(from + limits::TABLE_LIMIT);
+    for spot in &spots[from..end] {
+        append::append_from(to, area, *spot as usize);
     }
 }
 
@@ -56,41 +50,14 @@ fn write_tables(area: &[u8], spots: &[u64], n: usize, out: &mut [u8]) -> usize
     ensures { (result ≡ length (cut (standing_in area spots n)))
         × (out.new ≡ sets out.old 0 (bytes_out (cut (standing_in area spots n)))) }
 {
-    let mut tables = 0;
-    let mut from = 0;
-    while from < n {
-        let start = tables * limits::PLACE_SIZE;
+    let tables = n.div_ceil(limits::TABLE_LIMIT);
+    for k in 0..tables {
+        let from = k * limits::TABLE_LIMIT;
+        let start = k * limits::PLACE_SIZE;
         let end = start + limits::PLACE_SIZE;
         fill_table(&mut out[start..end], area, spots, from, n);
-        tables += 1;
-        from += limits::TABLE_LIMIT;
     }
     tables
-}
-
-// As `merge_into`, with two arrays to gather in.
-fn merge_with(
-    area: &[u8],
-    cards: &[Row],
-    lists: &[u16],
-    head: Head,
-    n: usize,
-    p: usize,
-    keys: &mut [u64],
-    spots: &mut [u64],
-    out: &mut [u8],
-) -> usize
-    requires { Levels area.now cards.now lists.now (head_words head)
-        × ((n < level_count)
-        × (Tabled area.now p
-        × ((length out.old ≡ merge_tables * place_size)
-        × ((length keys.old ≡ merge_entries) × (length spots.old ≡ merge_entries))))) }
-    ensures { (result ≡ length (tables_out_of area cards lists head n p))
-        × (out.new ≡ sets out.old 0 (bytes_out (tables_out_of area cards lists head n p))) }
-{
-    let used = sources::in_sources(area, cards, p, Key::LEAST, Key::GREATEST, keys, spots, 0);
-    let left = sift::sift(area, cards, lists, head, n, spots, used);
-    write_tables(area, spots, left, out)
 }
 
 // The tables that come out of the merge of p on level n, one after the other from the buffer's start on; how many they are.
@@ -108,17 +75,18 @@ pub fn merge_into(
     ensures { (result ≡ length (tables_out_of area cards lists head n p))
         × (out.new ≡ sets out.old 0 (bytes_out (tables_out_of area cards lists head n p))) }
 {
-    let mut keys = [0u64; MERGE_ENTRIES];
-    let mut spots = [0u64; MERGE_ENTRIES];
-    merge_with(
+    let mut keys = [0; MERGE_ENTRIES];
+    let mut spots = [0; MERGE_ENTRIES];
+    let used = sources::in_sources(
         area,
         cards,
-        lists,
-        head,
-        n,
         p,
-        &mut keys[..],
-        &mut spots[..],
-        out,
-    )
+        Key::LEAST,
+        Key::GREATEST,
+        &mut keys,
+        &mut spots,
+        0,
+    );
+    let left = sift::sift(area, cards, lists, head, n, &mut spots, used);
+    write_tables(area, &spots, left, out)
 }

@@ -7,7 +7,7 @@ use mathlib.Core.Option.{some, none}
 use native.Mathlib.Omega.{arith}
 use borrow.Author.Tests.{ltb-true, eqb-false}
 use lib.Dec.{ltb, eqb}
-use lib.ListN.{length, get_or, take, drop, drop_of_length-le}
+use lib.ListN.{length, get_or, take, drop}
 use Rattle.ldc.specs.Lists.{first, is_empty}
 use Rattle.ldc.specs.Store.{Store, links, level}
 use Rattle.ldc.specs.Lent.{Lent}
@@ -16,11 +16,11 @@ use Rattle.ldc.specs.Tidy.{due, due_in}
 use Rattle.ldc.proofs.Basics.Cases.{cases}
 use Rattle.ldc.proofs.Basics.ListLaws.{first-same}
 use Rattle.book.specs.Place.{the_index}
-use Rattle.book.specs.declared.index.Index.{Index}
-use Rattle.book.specs.declared.index.Index.TheVariants.{At, Nothing}
+use Rattle.std.specs.Prelude.{Some, None}
 use Rattle.compact_pick.specs.Calm.{CalmBut, looked_at}
 use Rattle.compact_pick.specs.Due.{passes_by, Items, Reads, Linked, ToldBy}
 use Rattle.compact_pick.specs.declared.due.Wanted.TheVariants.{DueBy, Bare}
+use Rattle.std.specs.Prelude as code
 
 -- The first of two lists: of the first, if it has one.
 pub first-left : (t : ℕ → Bool) (xs ys : List ℕ) (p : ℕ) → first t xs ≡ some p → first t (xs ++ ys) ≡ some p
@@ -53,13 +53,6 @@ levels-turn (suc zero) a b = refl
 levels-turn (suc (suc zero)) a b = refl
 levels-turn (suc (suc (suc zero))) a b = refl
 levels-turn (suc (suc (suc (suc n)))) a b = absurd (omega arith)
-
-pub levels-end : (n : ℕ) → level_count ≤ n → drop {A = ℕ} (n - 1) (1 ∷ 2 ∷ 3 ∷ []) ≡ []
-levels-end zero a = absurd (omega arith)
-levels-end (suc zero) a = absurd (omega arith)
-levels-end (suc (suc zero)) a = absurd (omega arith)
-levels-end (suc (suc (suc zero))) a = absurd (omega arith)
-levels-end (suc (suc (suc (suc n)))) a = let e : suc (suc (suc (suc n))) - 1 ≡ suc (suc (suc n)) = omega arith in rw e (drop_of_length-le {A = ℕ} (1 ∷ 2 ∷ 3 ∷ []) {i = suc (suc (suc n))} (omega arith))
 
 -- ---- the items of a level that are looked at
 
@@ -106,10 +99,10 @@ module _ (s : Store) (m : Lent) (w : ToldBy s m) (n : ℕ) (k : n < level_count)
       calm-at zero l i4 c a b = absurd (omega arith)
       calm-at (suc i) l i4 c a b = c a i (omega arith) b
 
-  module _ (on : ℕ) (low : 1 ≤ n) (calm : CalmBut on s) (t : ℕ) (r : Index) (ns : List ℕ) (e : t ≡ threshold_in m.head)
+  module _ (on : ℕ) (low : 1 ≤ n) (calm : CalmBut on s) (t : ℕ) (r : code.Option ℕ) (ns : List ℕ) (e : t ≡ threshold_in m.head)
       (f : the_index r ≡ first (passes_by m.area m.cards (DueBy t)) (looked (length m.cards) m.lists m.head on n)) where
-    pub due-here : (p : ℕ) → r ≡ At p → due_in s (n ∷ ns) ≡ some (record { on = n; place = p })
+    pub due-here : (p : ℕ) → r ≡ Some p → due_in s (n ∷ ns) ≡ some (record { on = n; place = p })
     due-here p h = let g : first (due s) (level s n) ≡ some p = sym (looked-due on t low calm e) ∙ sym f ∙ ap the_index h in rw g
 
-    pub due-turn : r ≡ Nothing → due_in s (n ∷ ns) ≡ due_in s ns
+    pub due-turn : r ≡ None → due_in s (n ∷ ns) ≡ due_in s ns
     due-turn h = let g : first (due s) (level s n) ≡ none = sym (looked-due on t low calm e) ∙ sym f ∙ ap the_index h in rw g

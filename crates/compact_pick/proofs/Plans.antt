@@ -21,7 +21,11 @@ use Rattle.ldc.specs.Facts.{Merging, Chosen}
 use Rattle.read.specs.Shown.{Listed}
 use Rattle.read.specs.Look.{Levels}
 use Rattle.read.proofs.Walks as walks
-use Rattle.compact_pick.specs.Due.{Items, Booked}
+use Rattle.std.specs.Prelude as code
+use Rattle.std.specs.Prelude.{None}
+use Rattle.book.specs.Place.{the_index}
+use Rattle.compact_pick.specs.Due.{Items, Booked, the_due}
+use Rattle.compact_pick.specs.declared.due.Due.{Due}
 use Rattle.compact_pick.specs.Level.{Short}
 use Rattle.compact_pick.specs.Plan.{level_plan, plan_of, plan_step}
 use Rattle.compact_pick.specs.declared.Plan.{Plan}
@@ -82,9 +86,16 @@ module _ (s : Store) where
   unfolding plan_of
   plan-due n p e = rw e
 
-  pub plan-level : due_table s ≡ none → plan_of s ≡ level_plan s (overfull s)
+  plan-level : due_table s ≡ none → plan_of s ≡ level_plan s (overfull s)
   unfolding plan_of
   plan-level e = rw e
+
+  -- No table is due, so the plan is that of the level that was found.
+  pub plan-here : (area : List ℕ) (cards : List (List ℕ)) (lists head : List ℕ) → Levels area cards lists head → Booked s cards lists head
+      → (d : code.Option Due) → the_due d ≡ due_table s → d ≡ None
+      → (o : code.Option ℕ) → the_index o ≡ fullest (length_in head) (0 ∷ 1 ∷ 2 ∷ []) → plan_of s ≡ level_plan s (the_index o)
+  plan-here area cards lists head v b d e missed o f =
+      plan-level (sym e ∙ ap the_due missed) ∙ ap (level_plan s) (sym (f ∙ overfull-by area cards lists head v s b))
 
   pub plan-idle : level_plan s none ≡ Idle
   unfolding level_plan

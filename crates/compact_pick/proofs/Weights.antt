@@ -1,12 +1,12 @@
 -- Links' numbers against a table's entry count: one turn of the walk that takes them off it, and the cases of a due table.
-use Prim.Native.Nat.{ℕ, zero, suc, ◌+◌, ◌-◌, ◌≤◌, ◌<◌}
-use mathlib.Core.Path.{◌≡◌, refl, sym, ◌∙◌, ap}
+use Prim.Native.Nat.{ℕ, suc, ◌+◌, ◌-◌, ◌≤◌, ◌<◌}
+use mathlib.Core.Path.{◌≡◌, refl, ◌∙◌, ap}
 use mathlib.Core.List.{List, [], ◌∷◌}
 use mathlib.Core.Bool.{true, false}
 use native.Mathlib.Omega.{arith}
 use borrow.Author.Tests.{leb-true, leb-false, le-leb, lt-leb, ne_eqb}
 use lib.Dec.{leb, eqb}
-use lib.ListN.{length, drop, drop_of_length-le}
+use lib.ListN.{length, drop}
 use Rattle.table.specs.Entry.{Entry}
 use Rattle.ldc.specs.Lists.{is_empty}
 use Rattle.ldc.specs.Store.{Link}
@@ -25,10 +25,6 @@ taken-off left number rest h =
     (λ q. let l : left - number ≤ rest = leb-true (left - number) rest q in rw q (le-leb left (number + rest) (omega arith)))
     (λ q. let l : rest < left - number = leb-false (left - number) rest q in rw q (lt-leb left (number + rest) (omega arith)))
 
-nothing_left : (left : ℕ) → leb left 0 ≡ eqb left 0
-nothing_left zero = refl
-nothing_left (suc n) = lt-leb (suc n) 0 (omega arith) ∙ sym (ne_eqb (suc n) 0 (λ e. omega arith))
-
 module _ (row : List ℕ) (j : ℕ) (left : ℕ) where
   weight-cons : j < length (links_in row) → weight (drop j (links_in row)) ≡ (link_at row j).number + weight (drop (j + 1) (links_in row))
   weight-cons h = ap weight (links-cons row j h)
@@ -39,9 +35,6 @@ module _ (row : List ℕ) (j : ℕ) (left : ℕ) where
   pub weighs-turn : j < length (links_in row) → (link_at row j).number < left
       → leb left (weight (drop j (links_in row))) ≡ leb (left - (link_at row j).number) (weight (drop (j + 1) (links_in row)))
   weighs-turn h l = rw (weight-cons h) (taken-off left (link_at row j).number (weight (drop (j + 1) (links_in row))) l)
-
-  pub weighs-end : length (links_in row) ≤ j → leb left (weight (drop j (links_in row))) ≡ eqb left 0
-  weighs-end h = rw (drop_of_length-le (links_in row) {i = j} h) (nothing_left left)
 
 -- ---- a due table
 

@@ -1,4 +1,5 @@
 -- What is asked of a table by its row and its place; and a store as far as area, cards, lists and head say it.
+use Rattle.std.specs.Prelude as code
 use Rattle.std.specs.Prelude.{ℕ, ◌<◌, ◌≡◌, List, Bool, length}
 use Rattle.std.proofs.Math.Option.{Option, some, none}
 use Rattle.table.specs.Table.{entries, place_of}
@@ -11,7 +12,6 @@ use Rattle.book.specs.Head.{mark_in}
 use Rattle.book.specs.Rows.{links_on}
 use Rattle.read.specs.Shown.{Legible, Listed}
 use Rattle.compact_pick.specs.declared.due.Due.{Due}
-use Rattle.compact_pick.specs.declared.due.Due.TheVariants.{At, Nothing}
 use Rattle.compact_pick.specs.declared.due.Wanted.{Wanted}
 use Rattle.compact_pick.specs.declared.due.Wanted.TheVariants.{DueBy, Bare}
 
@@ -46,6 +46,6 @@ pub record ToldBy (s : Store) (m : Lent) : Type 0 where
   pub booked : Booked s m.cards m.lists m.head
 
 -- What was found, as the definition has it.
-abbrev pub the_due : Due → Option Spot
-the_due (At n p) = some (record { on = n; place = p })
-the_due Nothing = none
+abbrev pub the_due : code.Option Due → Option Spot
+the_due (code.Some d) = some (record { on = d.level; place = d.place })
+the_due code.None = none

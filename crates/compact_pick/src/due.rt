@@ -17,7 +17,6 @@ ghost use Rattle.compact_pick.specs.Calm.{CalmBut, looked_at};
 ghost use Rattle.compact_pick.specs.Due.{passes_by, Items, ToldBy, the_due};
 
 use book::head::Head;
-use book::index::Index;
 use book::limits::LEVELS;
 use book::row::Row;
 use book::{list, row};
@@ -30,27 +29,24 @@ pub enum Wanted {
     Bare,
 }
 
-// A level and a place on it.
+// A table whose merge is due: its level, and its place.
 #[derive(Clone, Copy)]
-pub enum Due {
-    At(usize, usize),
-    Nothing,
+pub struct Due {
+    pub level: usize,
+    pub place: usize,
 }
 
 // Do the numbers of a row's links add up to at least this? They are taken off it one by one, so that no sum can be too large.
 fn weighs(row: &Row, own: u64) -> bool
     ensures { result ≡ leb own (weight (links_in row.now)) }
 {
-    let n = row::links_held(row);
     let mut left = own;
-    let mut j = 0;
-    while j < n {
+    for j in 0..row::links_held(row) {
         let number = row::link_at(row, j).number;
         if left <= number {
             return true;
         }
         left -= number;
-        j += 1;
     }
     left == 0
 }
@@ -82,19 +78,17 @@ fn passes(area: &[u8], cards: &[Row], p: usize, wanted: Wanted) -> bool
 }
 
 // The first place of a list whose table is as wanted.
-pub fn find_table(area: &[u8], cards: &[Row], items: &[u16], wanted: Wanted) -> Index
+pub fn find_table(area: &[u8], cards: &[Row], items: &[u16], wanted: Wanted) -> Option<usize>
     requires { Items area.now cards.now items.now }
     ensures { the_index result ≡ first (passes_by area.now cards.now wanted) items.now }
 {
-    let mut i = 0;
-    while i < items.len() {
-        let p = items[i] as usize;
+    for &item in items {
+        let p = usize::from(item);
         if passes(area, cards, p, wanted) {
-            return Index::At(p);
+            return Some(p);
         }
-        i += 1;
     }
-    Index::Nothing
+    None
 }
 
 // How many tables of level n are looked at: all, or none where only another level can have a due one.
@@ -109,17 +103,21 @@ fn count_looked_at(head: Head, suspect: usize, n: usize) -> usize
 }
 
 // The due table of the lowest level, and there of the lowest keys. `suspect` is the one level that can have any, or says nothing.
-pub fn find_due(area: &[u8], cards: &[Row], lists: &[u16], head: Head, suspect: usize) -> Due
+pub fn find_due(
+    area: &[u8],
+    cards: &[Row],
+    lists: &[u16],
+    head: Head,
+    suspect: usize,
+) -> Option<Due>
     requires { Levels area.now cards.now lists.now (head_words head) }
     ensures { (s : Store) → ToldBy s (held_beside area.now cards.now lists.now head []) → CalmBut suspect s → the_due result ≡ due_table s }
 {
-    let mut n = 1;
-    while n < LEVELS {
+    for n in 1..LEVELS {
         let items = list::items(lists, cards.len(), count_looked_at(head, suspect, n), n);
-        if let Index::At(p) = find_table(area, cards, items, Wanted::DueBy(head.threshold)) {
-            return Due::At(n, p);
+        if let Some(place) = find_table(area, cards, items, Wanted::DueBy(head.threshold)) {
+            return Some(Due { level: n, place });
         }
-        n += 1;
     }
-    Due::Nothing
+    None
 }

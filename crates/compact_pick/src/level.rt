@@ -8,7 +8,6 @@ ghost use Rattle.book.specs.Place.{the_index};
 ghost use Rattle.compact_pick.specs.Level.{Short, Compared};
 
 use book::head::Head;
-use book::index::Index;
 use book::limits::LAST_LEVEL;
 
 // The capacity of levels 0, 1 and 2, in live tables; level 3 has none.
@@ -20,11 +19,11 @@ fn capacity(n: usize) -> usize
 }
 
 // Of two levels the fuller one by live tables over capacity, of equals the first; the second may be missing.
-fn prefer(head: Head, n: usize, other: Index) -> usize
+fn prefer(head: Head, n: usize, other: Option<usize>) -> usize
     requires { Compared (head_words head) n other }
     ensures { result ≡ tidy.prefer (length_in (head_words head)) n (the_index other) }
 {
-    let Index::At(m) = other else {
+    let Some(m) = other else {
         return n;
     };
     if head.length_of(n) * capacity(m) < head.length_of(m) * capacity(n) {
@@ -35,16 +34,14 @@ fn prefer(head: Head, n: usize, other: Index) -> usize
 }
 
 // Of the levels above capacity the fullest; ties to the lower number.
-pub fn find_overfull(head: Head) -> Index
+pub fn find_overfull(head: Head) -> Option<usize>
     requires { Short (head_words head) }
     ensures { the_index result ≡ tidy.fullest (length_in (head_words head)) (0 ∷ 1 ∷ 2 ∷ []) }
 {
-    let mut i = LAST_LEVEL;
-    let mut best = Index::Nothing;
-    while 0 < i {
-        i -= 1;
+    let mut best = None;
+    for i in (0..LAST_LEVEL).rev() {
         if capacity(i) < head.length_of(i) {
-            best = Index::At(prefer(head, i, best));
+            best = Some(prefer(head, i, best));
         }
     }
     best

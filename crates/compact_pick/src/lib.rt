@@ -14,11 +14,9 @@ ghost use Rattle.compact_pick.specs.Due.{ToldBy};
 ghost use Rattle.compact_pick.specs.Plan.{plan_of};
 
 use book::head::Head;
-use book::index::Index;
 use book::limits::{LAST_LEVEL, LEVELS};
 use book::list;
 use book::row::Row;
-use due::Due;
 
 mod choice;
 mod due;
@@ -40,10 +38,10 @@ pub fn make_plan(area: &[u8], cards: &[Row], lists: &[u16], head: Head, suspect:
     requires { Levels area.now cards.now lists.now (head_words head) }
     ensures { (s : Store) → ToldBy s (held_beside area.now cards.now lists.now head []) → CalmBut suspect s → result ≡ plan_of s }
 {
-    if let Due::At(n, p) = due::find_due(area, cards, lists, head, suspect) {
-        return Plan::Merge(n, p);
+    if let Some(table) = due::find_due(area, cards, lists, head, suspect) {
+        return Plan::Merge(table.level, table.place);
     }
-    let Index::At(n) = level::find_overfull(head) else {
+    let Some(n) = level::find_overfull(head) else {
         return Plan::Idle;
     };
     let items = list::items(lists, cards.len(), head.length_of(n), n);

@@ -6,7 +6,7 @@ use Rattle.coding.specs.Number.{number_at, bytes_of}
 use Rattle.table.specs.Entry.{entry_length, entry_bytes}
 use Rattle.table.specs.Table.{zeros, count_of, entries_bytes, table_length, table_bytes}
 use Rattle.table.specs.Search.{find_at, find_in, least_key, greatest_key}
-use Rattle.table.specs.declared.search.Found.TheVariants.{At, Nothing}
+use Rattle.std.specs.Prelude.{Some, None}
 use Rattle.formats.specs.Examples.{a_under5, mark_under7, the_two}
 
 key-bytes : bytes_of 8 (3 * 2 ^ 40 + 1250) ≡ 226 ∷ 4 ∷ 0 ∷ 0 ∷ 0 ∷ 3 ∷ 0 ∷ 0 ∷ []
@@ -30,15 +30,15 @@ unfolding bytes_of entries_bytes table_length table_bytes
 empty-bytes = refl
 
 -- Where keys stand in the table of the two.
-find-5 : find_in (table_bytes the_two) 5 ≡ At 8
+find-5 : find_in (table_bytes the_two) 5 ≡ Some 8
 unfolding number_at bytes_of entry_length entry_bytes count_of entries_bytes table_length table_bytes find_at find_in
 find-5 = refl
 
-find-6 : find_in (table_bytes the_two) 6 ≡ Nothing
+find-6 : find_in (table_bytes the_two) 6 ≡ None
 unfolding number_at bytes_of entry_length entry_bytes count_of entries_bytes table_length table_bytes find_at find_in
 find-6 = refl
 
-find-7 : find_in (table_bytes the_two) 7 ≡ At 21
+find-7 : find_in (table_bytes the_two) 7 ≡ Some 21
 unfolding number_at bytes_of entry_length entry_bytes count_of entries_bytes table_length table_bytes find_at find_in
 find-7 = refl
 

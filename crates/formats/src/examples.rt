@@ -5,7 +5,7 @@ ghost use Rattle.table.specs.Entry.{entry_bytes};
 ghost use Rattle.table.specs.Table.{table_bytes};
 ghost use Rattle.formats.specs.Examples.{a_under5, mark_under7, the_two};
 
-use coding::key::{Built, Key};
+use coding::key::Key;
 use table::limits;
 use table_builder::{append, place};
 
@@ -13,10 +13,7 @@ use table_builder::{append, place};
 pub fn key() -> u64
     ensures { result ≡ 3 * 2 ^ 40 + 1250 }
 {
-    let Built::Whole(k) = Key::of(3, 1250) else {
-        return 0;
-    };
-    k.value
+    Key::on(3, 1250).value
 }
 
 // The value "A" under key 5.

@@ -9,7 +9,6 @@ use coding::{hex, number};
 use std::io::{Print, Stdout};
 use table::limits::PLACE_SIZE;
 use table::search;
-use table::search::Found;
 use table_builder::place;
 
 // A line shows up to so many bytes, three characters each.
@@ -112,7 +111,7 @@ fn find_line(out: Stdout, place: &[u8], key: u64)
 {
     put(out, b"key ");
     put_number(out, key);
-    let Found::At(at) = search::find(place, Key { value: key }) else {
+    let Some(at) = search::find(place, Key { value: key }) else {
         put(out, b" is not in the table\n");
         return;
     };

@@ -72,12 +72,10 @@ pub fn run_all(
     ensures { Ran (before area.old cards.old lists.old head.old memory.old) (pieces_before input ends answers stops served) from n
         (after area cards lists head memory) (pieces_after input ends answers stops served) }
 {
-    let mut k = from;
-    while k < n {
+    for k in from..n {
         run_one(
             area, cards, lists, head, memory, input, ends, answers, stops, served, k,
         );
-        k += 1;
     }
 }
 

@@ -1,6 +1,6 @@
 -- Where pieces begin and end: what a ready run says of its ends.
-use Prim.Native.Nat.{ℕ, zero, suc, ◌-◌, ◌≤◌, ◌<◌}
-use mathlib.Core.Path.{◌≡◌, refl, ap}
+use Prim.Native.Nat.{ℕ, zero, suc, ◌≤◌, ◌<◌}
+use mathlib.Core.Path.{◌≡◌}
 use mathlib.Core.Bool.{Bool, true, false, ◌&&◌}
 use mathlib.Core.List.{List}
 use native.Mathlib.Omega.{arith}
@@ -10,22 +10,7 @@ use lib.ListN.{length, get_or}
 use Rattle.ldc.proofs.Basics.Cases.{cases, both_left, both_right}
 use Rattle.history_lists.specs.Pieces.{start_of, end_good, ready}
 
--- Behind the first piece, a piece begins where the one before ends.
-pub start-behind : (ends : List ℕ) (k : ℕ) → (k ≡ 0 → ⊥) → get_or ends (k - 1) 0 ≡ start_of ends k
-start-behind ends zero h = absurd (h refl)
-start-behind ends (suc k) h =
-    let e : suc k - 1 ≡ k = omega arith in
-    ap (λ (x : ℕ). get_or ends x 0) e
-
 -- ---- the tests
-
-pub good-short : (size : ℕ) (ends : List ℕ) (k : ℕ) → length ends ≤ k → end_good size ends k ≡ false
-unfolding end_good
-good-short size ends k h = rw (le-ltb k (length ends) h)
-
-pub good-there : (size : ℕ) (ends : List ℕ) (k : ℕ) → k < length ends → end_good size ends k ≡ (leb (start_of ends k) (get_or ends k 0) && leb (get_or ends k 0) size)
-unfolding end_good
-good-there size ends k h = rw (lt-ltb k (length ends) h)
 
 pub record Ends (size : ℕ) (ends : List ℕ) (k : ℕ) : Type 0 where
   pub there : k < length ends

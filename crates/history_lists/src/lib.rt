@@ -16,27 +16,24 @@ pub fn start(ends: &[usize], k: usize) -> usize
 }
 
 // Does piece k have an end, not before its start and not beyond so many bytes?
+#[tactic(auto, unfolding(crate::specs::Pieces::end_good))]
 fn is_good(size: usize, ends: &[usize], k: usize) -> bool
     ensures { result ≡ end_good size ends.now k }
 {
-    if ends.len() <= k {
+    let Some(&end) = ends.get(k) else {
         return false;
-    }
-    let from = start(ends, k);
-    let end = ends[k];
-    (from <= end) & (end <= size)
+    };
+    (start(ends, k) <= end) & (end <= size)
 }
 
 // How many runs there are: list and answer buffer have good ends, and there is room for the number; the first that is not ready ends the history.
 pub fn runs(size: usize, ends: &[usize], space: usize, stops: &[usize], room: usize) -> usize
     ensures { Runs size ends.now space stops.now room result }
 {
-    let mut k = 0;
-    while k < room {
+    for k in 0..room {
         if !(is_good(size, ends, k) & is_good(space, stops, k)) {
             return k;
         }
-        k += 1;
     }
-    k
+    room
 }

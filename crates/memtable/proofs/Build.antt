@@ -112,18 +112,21 @@ module _ (to s : List ℕ) (held : Bool) (kind key : ℕ) (v : List ℕ) (p : Pu
       let few : count_of s < table_limit = ltb-true _ _ (rw none at p.room) in
       rw q (omega (arith, few-below.0)))
 
-  first_part : (appends (entries_at (count_below key (entries s)) s table_head) (table_bytes []) ≡ table_bytes (entries_at (count_below key (entries s)) s table_head))
+  first_part : (appends (entries_at (count_below key (entries s)) s table_head) (table_bytes [])
+      ≡ table_bytes (entries_at (count_below key (entries s)) s table_head))
       × Slim (entries_at (count_below key (entries s)) s table_head)
   first_part =
       let g = memory-good s p.good in
       appends-table (entries_at (count_below key (entries s)) s table_head) [] slim-none
-      (shorts (count_below key (entries s)) (count_of s) s table_head 0 (length_at s 0) g.good (omega (arith, length-bounds s p.good, p.place)) few-below.0)
+      (shorts (count_below key (entries s)) (count_of s) s table_head 0 (length_at s 0) g.good
+      (omega (arith, length-bounds s p.good, p.place)) few-below.0)
       (omega (arith, length-at (count_below key (entries s)) s table_head, few-below.0, g.few))
 
   entry-short : entry_length (entry_of kind key v) ≤ entry_limit
   entry-short = omega (arith, length-kept kind key v p.form, (formed kind (entry_head + length v) p.form).high)
 
-  second-part : appended (entry_of kind key v) (table_bytes (entries_at (count_below key (entries s)) s table_head)) ≡ table_bytes (entries_at (count_below key (entries s)) s table_head ++ entry_of kind key v ∷ [])
+  second-part : appended (entry_of kind key v) (table_bytes (entries_at (count_below key (entries s)) s table_head))
+      ≡ table_bytes (entries_at (count_below key (entries s)) s table_head ++ entry_of kind key v ∷ [])
   second-part = append-encode (entries_at (count_below key (entries s)) s table_head) (entry_of kind key v)
       (omega (arith, entry-short, first_part.1, length-at (count_below key (entries s)) s table_head, few-next.1))
       (omega (arith, length-at (count_below key (entries s)) s table_head, few-next.1))
@@ -148,7 +151,13 @@ module _ (to s : List ℕ) (held : Bool) (kind key : ℕ) (v : List ℕ) (p : Pu
       let rest = entries_at (count_of s - j) s (position_in j s) in
       let third = appends-table rest (ds ++ e ∷ []) (slim-snoc ds e first_part.1 entry-short)
       (shorts-from j (count_of s) s table_head 0 (length_at s 0) g.good (omega (arith, length-bounds s p.good, p.place)) few-next.0)
-      (omega (arith, length-append ds (e ∷ []), length-at (count_below key (entries s)) s table_head, length-at (count_of s - j) s (position_in j s), few-next.1)) in
+      (omega (
+        arith,
+        length-append ds (e ∷ []),
+        length-at (count_below key (entries s)) s table_head,
+        length-at (count_of s - j) s (position_in j s),
+        few-next.1,
+      )) in
       rw (first_part.0, second-part) (third.0 ∙ ap table_bytes (append_assoc ds (e ∷ []) rest ∙ sym split))
 
   -- What the code is given on the way.
@@ -159,7 +168,8 @@ module _ (to s : List ℕ) (held : Bool) (kind key : ℕ) (v : List ℕ) (p : Pu
   room-second = rw first_part.0 (room-table 1 (entries_at (count_below key (entries s)) s table_head) first_part.1
       (omega (arith, length-at (count_below key (entries s)) s table_head, few-next.1)))
 
-  pub room-third : RoomFor (count_of s - next key (entries s)) (appended (entry_of kind key v) (appends (entries_at (count_below key (entries s)) s table_head) (table_bytes [])))
+  pub room-third : RoomFor (count_of s - next key (entries s))
+      (appended (entry_of kind key v) (appends (entries_at (count_below key (entries s)) s table_head) (table_bytes [])))
   room-third =
       let ds = entries_at (count_below key (entries s)) s table_head in
       rw (first_part.0, second-part)

@@ -75,5 +75,12 @@ put-split e (suc n) s at least end g =
     (λ q. let lt = leb-false k x q in
     let less : suc n - suc (next k rest) ≡ n - next k rest = omega arith in
     let ih = put-split e n s (at + length_at s at) (suc (key_at s at)) end h.rest in
-    rw (q, ne_eqb x k (λ p. omega arith), le-ltb k x (omega arith), ne_eqb k x (λ p. omega arith), cond-suc (is_some (find k rest)) (count_below k rest), less)
+    rw (
+      q,
+      ne_eqb x k (λ p. omega arith),
+      le-ltb k x (omega arith),
+      ne_eqb k x (λ p. omega arith),
+      cond-suc (is_some (find k rest)) (count_below k rest),
+      less,
+    )
     (ap (λ es. entry_at s at ∷ es) ih))

@@ -1,7 +1,7 @@
 -- One turn of the loops: what is left of a definition, after an entry. And what a search of the bytes says of the entries.
 use Prim.Native.Nat.{ℕ, suc, ◌+◌, ◌-◌, ◌≤◌, ◌<◌}
-use mathlib.Core.Path.{◌≡◌, sym, ◌∙◌, ap}
-use mathlib.Core.Bool.{true, false}
+use mathlib.Core.Path.{◌≡◌, refl, ◌∙◌, ap}
+use mathlib.Core.Bool.{true}
 use mathlib.Core.List.{List}
 use native.Mathlib.Omega.{arith}
 use lib.ListN.{length}
@@ -12,20 +12,20 @@ use Rattle.table.specs.Limits.{entry_head, entry_limit, table_limit, place_size}
 use Rattle.table.specs.Entry.{Entry, entry_length, entry_bytes, length_at, entry_at}
 use Rattle.table.specs.Table.{count_of, entries, entries_at, is_memory, appended, RoomFor}
 use Rattle.table.specs.Search.{find, find_in, shown}
-use Rattle.table.specs.declared.search.Found.TheVariants.{At, Nothing}
+use Rattle.std.specs.Prelude as code
 use Rattle.table.proofs.Position.{memory-good}
 use Rattle.table.proofs.Found.{shown-find}
 use Rattle.ldc.specs.Lists.{is_some}
 use Rattle.memtable.specs.Appends.{appends}
 
 -- An entry is there where the search of the bytes has found one.
-pub held : (s : List ℕ) (k at : ℕ) → find_in s k ≡ At at → is_some (find k (entries s)) ≡ true
+some-shown : (s : List ℕ) (o : code.Option ℕ) → code.is_some o ≡ is_some (shown s o)
 unfolding shown
-held s k at h = ap is_some (sym (shown-find s k) ∙ ap (shown s) h)
+some-shown s (code.Some at) = refl
+some-shown s code.None = refl
 
-pub missed : (s : List ℕ) (k : ℕ) → find_in s k ≡ Nothing → is_some (find k (entries s)) ≡ false
-unfolding shown
-missed s k h = ap is_some (sym (shown-find s k) ∙ ap (shown s) h)
+pub sought : (s : List ℕ) (k : ℕ) → code.is_some (find_in s k) ≡ is_some (find k (entries s))
+sought s k = some-shown s (find_in s k) ∙ ap is_some (shown-find s k)
 
 -- Entries from the i-th up to the n-th are the i-th and those behind it.
 pub appends-turn : (n i : ℕ) (s : List ℕ) (at : ℕ) (to : List ℕ) → i < n

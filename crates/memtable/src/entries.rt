@@ -6,7 +6,7 @@ ghost use Rattle.ldc.specs.Lists.{is_some};
 ghost use Rattle.memtable.specs.Appends.{appends, AtEntry};
 
 use coding::key::Key;
-use table::search::{EntryAt, Found};
+use table::search::EntryAt;
 use table::{entry, search};
 use table_builder::append;
 
@@ -15,10 +15,7 @@ pub fn holds_key(s: &[u8], key: Key) -> bool
     requires { MemoryPlace s.now }
     ensures { result ≡ is_some (find key.value (entries s.now)) }
 {
-    let Found::At(_) = search::find(s, key) else {
-        return false;
-    };
-    true
+    search::find(s, key).is_some()
 }
 
 // The entries of `s` from one on up to the n-th are put behind the last of `to`.
@@ -26,12 +23,10 @@ pub fn append_up_to(to: &mut [u8], s: &[u8], from: EntryAt, n: usize)
     requires { AtEntry s.now from × ((n ≤ count_of s.now) × RoomFor (n - from.index) to.old) }
     ensures { to.new ≡ appends (entries_at (n - from.index) s.now from.at) to.old }
 {
-    let mut i = from.index;
     let mut at = from.at;
-    while i < n {
+    for _ in from.index..n {
         append::append_from(to, s, at);
-        at += entry::length_at(s, at) as usize;
-        i += 1;
+        at += usize::from(entry::length_at(s, at));
     }
 }
 
@@ -42,11 +37,9 @@ pub fn pass_entry(s: &[u8], here: EntryAt, held: bool) -> EntryAt
         × (result.at ≡ position_in result.index s.now) }
 {
     if held {
-        let at = here.at;
-        let len = entry::length_at(s, at) as usize;
         EntryAt {
             index: here.index + 1,
-            at: at + len,
+            at: here.at + usize::from(entry::length_at(s, here.at)),
         }
     } else {
         here

@@ -42,8 +42,9 @@ pub fn put(memory: &mut [u8], kind: u16, key: Key, value: &[u8]) -> u16
     if held | (search::count(memory) < limits::TABLE_LIMIT) {
         let mut fresh = [0u8; limits::PLACE_SIZE];
         build_with(&mut fresh, memory, held, kind, key, value);
-        place::copy(memory, 0, &fresh);
-        return results::DONE;
+        memory.copy_from_slice(&fresh);
+        results::DONE
+    } else {
+        results::MEMORY_FULL
     }
-    results::MEMORY_FULL
 }

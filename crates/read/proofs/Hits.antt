@@ -9,22 +9,20 @@ use lib.Dec.{eqb}
 use Rattle.table.specs.Entry.{Entry, entry_of, entry_at, kind_at}
 use Rattle.table.specs.Table.{entries, place_of}
 use Rattle.table.specs.Search.{find, find_in, shown}
-use Rattle.table.specs.declared.search.Found.TheVariants as found
+use Rattle.std.specs.Prelude as code
 use Rattle.table.proofs.Found.{shown-find, find-stands}
 use Rattle.table.proofs.Taken.{seated-of}
 use Rattle.ldc.specs.Lists.{is_some}
 use Rattle.ldc.proofs.Basics.Cases.{cases}
 use Rattle.ldc.proofs.Entries.Finds.{or_else}
 use Rattle.read.specs.Shown.{Tabled}
-use Rattle.read.specs.Found.{hit_entry, Hits}
-use Rattle.read.specs.declared.found.Hit.{Hit}
-use Rattle.read.specs.declared.found.Hit.TheVariants.{At, Nothing}
+use Rattle.read.specs.Found.{Hit, hit_entry, Hits}
 use Rattle.read.proofs.Shows.{place-memory}
 
 -- ---- in a table
 
-pub hit-found : (area : List ℕ) (p k at : ℕ) → Tabled area p → find_in (place_of area p) k ≡ found.At at
-    → Hits area (find k (entries (place_of area p))) (At p at)
+pub hit-found : (area : List ℕ) (p k at : ℕ) → Tabled area p → find_in (place_of area p) k ≡ code.Some at
+    → Hits area (find k (entries (place_of area p))) (some (record { place = p; at = at }))
 unfolding shown
 hit-found area p k at t h =
     let s = place_of area p in
@@ -33,18 +31,18 @@ hit-found area p k at t h =
       seated = (t.within, seated-of s at (find-stands s (place-memory area p t) k at h).0);
     }
 
-pub hit-none : (area : List ℕ) (o : Option Entry) → o ≡ none → Hits area o Nothing
+pub hit-none : (area : List ℕ) (o : Option Entry) → o ≡ none → Hits area o none
 hit-none area o e = record { shown = sym e; seated = tt }
 
-pub missed : (area : List ℕ) (p k : ℕ) → find_in (place_of area p) k ≡ found.Nothing → find k (entries (place_of area p)) ≡ none
+pub missed : (area : List ℕ) (p k : ℕ) → find_in (place_of area p) k ≡ code.None → find k (entries (place_of area p)) ≡ none
 unfolding shown
 missed area p k h = let s = place_of area p in sym (shown-find s k) ∙ ap (shown s) h
 
 -- What a hit says of what was sought.
-pub hit-nothing : (area : List ℕ) (o : Option Entry) (h : Hit) → Hits area o h → h ≡ Nothing → o ≡ none
+pub hit-nothing : (area : List ℕ) (o : Option Entry) (h : Option Hit) → Hits area o h → h ≡ none → o ≡ none
 hit-nothing area o h t e = sym t.shown ∙ ap (hit_entry area) e
 
-pub hit-some : (area : List ℕ) (o : Option Entry) (h : Hit) (p at : ℕ) → Hits area o h → h ≡ At p at → o ≡ none → ⊥
+pub hit-some : (area : List ℕ) (o : Option Entry) (h : Option Hit) (p at : ℕ) → Hits area o h → h ≡ some (record { place = p; at = at }) → o ≡ none → ⊥
 hit-some area o h p at t e n =
     let clash : ◌≡◌ {A = Option Entry} none (some _) = sym n ∙ sym t.shown ∙ ap (hit_entry area) e in
     let z : ◌≡◌ {A = ℕ} 0 1 = cc in omega arith
@@ -59,10 +57,10 @@ value-test s at = cases (eqb (kind_at s at) 2) (λ q. rw q) (λ q. rw q)
 -- ---- the first of two
 
 -- What was met decides; what was missed leaves it to the rest.
-pub met : (area : List ℕ) (a b : Option Entry) (h : Hit) (p at : ℕ) → h ≡ At p at → Hits area a h → Hits area (or_else a b) h
+pub met : (area : List ℕ) (a b : Option Entry) (h : Option Hit) (p at : ℕ) → h ≡ some (record { place = p; at = at }) → Hits area a h → Hits area (or_else a b) h
 met area a b h p at e t =
     let there : a ≡ some _ = sym t.shown ∙ ap (hit_entry area) e in
     record { shown = t.shown ∙ rw there; seated = t.seated }
 
-pub passed : (area : List ℕ) (a b : Option Entry) (h : Hit) → h ≡ Nothing → Hits area a h → or_else a b ≡ b
+pub passed : (area : List ℕ) (a b : Option Entry) (h : Option Hit) → h ≡ none → Hits area a h → or_else a b ≡ b
 passed area a b h e t = let none : a ≡ none = sym t.shown ∙ ap (hit_entry area) e in rw none

@@ -1,5 +1,6 @@
 -- The laws of `read`.
 --   Pieces    lists, rows and places of lent memory and of the store that it shows
+--   Keys      the greater and the lesser of two keys
 --   Shows     what legible area and cards show
 --   Hits      what was found
 --   Rank      the search of a level
@@ -8,6 +9,7 @@
 --   Walks     how long a level's list is, and values
 --   Spots     where the answer of a look-up stands, and its reply
 pub mod Pieces
+pub mod Keys
 pub mod Shows
 pub mod Hits
 pub mod Rank

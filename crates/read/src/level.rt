@@ -16,15 +16,12 @@ pub fn span_end(area: &[u8], cards: &[Row], p: usize) -> Key
     requires { Legible area.now cards.now × Tabled area.now p }
     ensures { result.value ≡ span_end (shown_in area cards) p }
 {
-    let n = row::link_count(&cards[p]) as usize;
+    let row = &cards[p];
+    let n = row::link_count(row) as usize;
     let mut end = place::greatest(area, p);
-    let mut i = 0;
-    while i < n {
-        let link = row::link_at(&cards[p], i);
-        let low = link.low;
-        let high = link.high;
-        end = end.greater(low.greater(high));
-        i += 1;
+    for i in 0..n {
+        let link = row::link_at(row, i);
+        end = end.max(link.low.max(link.high));
     }
     end
 }
@@ -34,17 +31,15 @@ pub fn reaches(area: &[u8], cards: &[Row], p: usize, key: Key) -> bool
     requires { Legible area.now cards.now × Tabled area.now p }
     ensures { result ≡ leb key.value (span_end (shown_in area cards) p) }
 {
-    let n = row::link_count(&cards[p]) as usize;
-    let mut i = 0;
-    while i < n {
-        let link = row::link_at(&cards[p], i);
-        let low = link.low;
-        if key.at_most(low.greater(link.high)) {
+    let row = &cards[p];
+    let n = row::link_count(row) as usize;
+    for i in 0..n {
+        let link = row::link_at(row, i);
+        if key <= link.low.max(link.high) {
             return true;
         }
-        i += 1;
     }
-    key.at_most(place::greatest(area, p))
+    key <= place::greatest(area, p)
 }
 
 // Does a table's span start at a key, or below it?
@@ -52,29 +47,24 @@ fn starts_by(area: &[u8], cards: &[Row], p: usize, key: Key) -> bool
     requires { Legible area.now cards.now × Tabled area.now p }
     ensures { result ≡ leb (span_start (shown_in area cards) p) key.value }
 {
-    let links = row::link_count(&cards[p]) as usize;
-    let mut i = 0;
-    while i < links {
-        let link = row::link_at(&cards[p], i);
-        let low = link.low;
-        if low.lesser(link.high).at_most(key) {
+    let row = &cards[p];
+    let links = row::link_count(row) as usize;
+    for i in 0..links {
+        let link = row::link_at(row, i);
+        if link.low.min(link.high) <= key {
             return true;
         }
-        i += 1;
     }
-    place::least(area, p).at_most(key)
+    place::least(area, p) <= key
 }
 
 // Does a table's span hold a key?
+#[tactic(auto, unfolding(ldc::specs::Store::span_holds))]
 pub fn span_holds(area: &[u8], cards: &[Row], p: usize, key: Key) -> bool
     requires { Legible area.now cards.now × Tabled area.now p }
     ensures { result ≡ span_holds (shown_in area cards) p key.value }
 {
-    if starts_by(area, cards, p, key) {
-        reaches(area, cards, p, key)
-    } else {
-        false
-    }
+    starts_by(area, cards, p, key) && reaches(area, cards, p, key)
 }
 
 // How many tables have a least key of at most this one: as many as it has passed, or one more, whose span may reach it.
@@ -88,7 +78,7 @@ pub fn count_reached(area: &[u8], cards: &[Row], items: &[u16], key: Key) -> usi
     let mut high = items.len();
     while low < high {
         let mid = low + (high - low) / 2;
-        if key.below(place::least(area, items[mid] as usize)) {
+        if key < place::least(area, usize::from(items[mid])) {
             high = mid;
         } else {
             low = mid + 1;
@@ -107,7 +97,7 @@ pub fn count_passed(area: &[u8], cards: &[Row], items: &[u16], key: Key) -> usiz
         return 0;
     }
     let last = end - 1;
-    if reaches(area, cards, items[last] as usize, key) {
+    if reaches(area, cards, usize::from(items[last]), key) {
         last
     } else {
         end
@@ -123,5 +113,5 @@ pub fn holds(area: &[u8], cards: &[Row], items: &[u16], key: Key) -> bool
     if items.len() <= at {
         return false;
     }
-    starts_by(area, cards, items[at] as usize, key)
+    starts_by(area, cards, usize::from(items[at]), key)
 }

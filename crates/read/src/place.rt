@@ -9,11 +9,10 @@ ghost use Rattle.read.specs.Shown.{Tabled};
 
 use book::place::bytes_of;
 use coding::key::Key;
-use table::search::Found;
 use table::{entry, search};
 
 // The entry with this key.
-pub fn find(area: &[u8], p: usize, key: Key) -> Found
+pub fn find(area: &[u8], p: usize, key: Key) -> Option<usize>
     requires { Tabled area.now p }
     ensures { result ≡ find_in (place_of area.now p) key.value }
 {
@@ -21,7 +20,7 @@ pub fn find(area: &[u8], p: usize, key: Key) -> Found
 }
 
 // The first entry from a key on.
-pub fn seek(area: &[u8], p: usize, key: Key) -> Found
+pub fn seek(area: &[u8], p: usize, key: Key) -> Option<usize>
     requires { Tabled area.now p }
     ensures { result ≡ seek_in (place_of area.now p) key.value }
 {

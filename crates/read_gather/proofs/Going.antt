@@ -21,7 +21,8 @@ pub record Now (bytes keys spots : List ℕ) (n size : ℕ) (left : List (List E
   pub same : all ≡ gather_on size left es
 
 -- From `keys₀`, `spots₀` and n, with these sources left.
-pub record Going (area : List ℕ) (all : List (List Entry)) (keys₀ spots₀ : List ℕ) (n : ℕ) (keys spots : List ℕ) (used : ℕ) (left : List (List Entry)) : Type 0 where
+pub record Going (area : List ℕ) (all : List (List Entry)) (keys₀ spots₀ : List ℕ) (n : ℕ) (keys spots : List ℕ) (used : ℕ)
+    (left : List (List Entry)) : Type 0 where
   pub long : length keys ≡ length keys₀
   pub wide : length spots ≡ length spots₀
   pub inside : used ≤ length keys
@@ -30,7 +31,8 @@ pub record Going (area : List ℕ) (all : List (List Entry)) (keys₀ spots₀ :
       → Now (area ++ behind) keys spots used (length keys₀) left (gather_on (length keys₀) all es)
 
 module _ (area : List ℕ) (all : List (List Entry)) (keys₀ spots₀ : List ℕ) (n : ℕ) where
-  pub going : (left : List (List Entry)) → InUse keys₀ spots₀ n → ((es : List Entry) → gather_on (length keys₀) all es ≡ gather_on (length keys₀) left es)
+  pub going : (left : List (List Entry)) → InUse keys₀ spots₀ n
+      → ((es : List Entry) → gather_on (length keys₀) all es ≡ gather_on (length keys₀) left es)
       → Going area all keys₀ spots₀ n keys₀ spots₀ n left
   going left u same = record {
     long = refl;
@@ -41,8 +43,10 @@ module _ (area : List ℕ) (all : List (List Entry)) (keys₀ spots₀ : List �
   }
 
   module _ (keys spots : List ℕ) (used : ℕ) where
-    pub goes_on : (xss rest : List (List Entry)) (mid high : ℕ) (keys' spots' : List ℕ) (used' : ℕ) → Going area all keys₀ spots₀ n keys spots used (xss ++ rest)
-        → AllKeys 0 mid xss → AllKeys mid high rest → TakenAll area xss keys spots used keys' spots' used' → length keys' ≡ length keys → length spots' ≡ length spots
+    pub goes_on : (xss rest : List (List Entry)) (mid high : ℕ) (keys' spots' : List ℕ) (used' : ℕ)
+        → Going area all keys₀ spots₀ n keys spots used (xss ++ rest)
+        → AllKeys 0 mid xss → AllKeys mid high rest → TakenAll area xss keys spots used keys' spots' used' → length keys' ≡ length keys
+        → length spots' ≡ length spots
         → Going area all keys₀ spots₀ n keys' spots' used' rest
     goes_on xss rest mid high keys' spots' used' g hx hr t kl sl = record {
       long = kl ∙ g.long;

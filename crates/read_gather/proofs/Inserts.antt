@@ -50,7 +50,9 @@ module _ (keys : List ℕ) (n key : ℕ) (inside : n ≤ length keys) (j : ℕ) 
         let t : take j (take n xs) ≡ take n xs = ap (λ i. take i (take n xs)) jn ∙ take-take n n xs (omega arith) in
         let l : length (take n xs) ≡ length keys = omega (arith, used', used) in
         let o = opened (λ i g. omega arith) in
-        sym (ap (take (length keys)) (o ∙ ap (λ (f : List A). f ++ x ∷ drop j (take n xs)) t) ∙ take_at (take n xs) (x ∷ drop j (take n xs)) (length keys) l)
+        sym
+        (ap (take (length keys)) (o ∙ ap (λ (f : List A). f ++ x ∷ drop j (take n xs)) t)
+        ∙ take_at (take n xs) (x ∷ drop j (take n xs)) (length keys) l)
 
     grown : (top : ℕ) (d : A) → (j < n → get_or keys j 0 ≡ key → ⊥) → j < length keys → top ≡ min n (length keys - 1)
         → take (top + 1) (set (lift (top - j) j d xs) j x) ≡ take (length keys) (beside key x (take n keys) (take n xs))
@@ -83,7 +85,8 @@ module _ (keys : List ℕ) (n key : ℕ) (inside : n ≤ length keys) (j : ℕ) 
     beyond h = record { keyed = full key keys refl h; worded = full word words same h; inside = inside }
 
     pub between : (top : ℕ) (keys' words' : List ℕ) → (j < n → get_or keys j 0 ≡ key → ⊥) → j < length keys → top ≡ min n (length keys - 1)
-        → keys' ≡ lift (top - j) j 0 keys → words' ≡ lift (top - j) j 0 words → Inserted keys words n key word (set keys' j key) (set words' j word) (top + 1)
+        → keys' ≡ lift (top - j) j 0 keys → words' ≡ lift (top - j) j 0 words
+        → Inserted keys words n key word (set keys' j key) (set words' j word) (top + 1)
     between top keys' words' anew h t ek ew = record {
       keyed = rw ek (grown key keys refl top 0 anew h t);
       worded = rw ew (grown word words same top 0 anew h t);

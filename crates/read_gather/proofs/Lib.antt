@@ -12,6 +12,7 @@
 --   Scans     sources whose keys lie apart may be taken in either order
 --   Narrow    where the arrays are full, a range may end at their last key
 --   Going     sources taken in not in their order, with those that are left
+--   Parts     a part of a list, as it is lent
 --   Upward    the tables of a level below taken in upward
 --   Whole     level by level, and the memory table behind the area
 pub mod Intake
@@ -27,5 +28,6 @@ pub mod Steps
 pub mod Scans
 pub mod Narrow
 pub mod Going
+pub mod Parts
 pub mod Upward
 pub mod Whole

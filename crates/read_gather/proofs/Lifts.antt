@@ -5,27 +5,12 @@ use mathlib.Core.Logic.{◌⊎◌, inl, inr, ⊎_elim}
 use mathlib.Core.List.{List, [], ◌∷◌, ◌++◌, append_assoc}
 use native.Mathlib.Omega.{arith}
 use native.Mathlib.Nat.{add-zero, add-suc}
+use native.Mathlib.Numerals.{add-one}
 use lib.ListN.{length, take, drop, get_or, set, length-set, length-take}
-use lib.Seq.{take-suc, drop-cons, take_all, take-take, take_at, take-set-le, drop-set-lt, get_or-set_same, length-take-le}
+use lib.Seq.{paste, take-suc, drop-cons, take_all, take-take, take_at, take-set-le, drop-set-lt, get_or-set_same, length-take-le}
 use Rattle.read_gather.specs.Beside.{lift}
 
 module _ {ℓ} {A : Type ℓ} where
-  -- One turn, and none more.
-  pub lift-turn : (j i : ℕ) (d : A) (xs : List A) → j < i → lift (i - j) j d xs ≡ lift (i - 1 - j) j d (set xs i (get_or xs (i - 1) d))
-  unfolding lift
-  lift-turn j i d xs h =
-      let e : i - j ≡ suc (i - 1 - j) = omega arith in
-      let a : i - 1 - j + j ≡ i - 1 = omega arith in
-      let b : suc (i - 1) ≡ i = omega arith in
-      let m : ℕ = i - 1 - j in
-      ap (λ t. lift t j d xs) e
-      ∙ ap (λ t. lift m j d (set xs (suc t) (get_or xs t d))) a
-      ∙ ap (λ t. lift m j d (set xs t (get_or xs (i - 1) d))) b
-
-  pub lift-end : (j i : ℕ) (d : A) (xs : List A) → i ≤ j → lift (i - j) j d xs ≡ xs
-  unfolding lift
-  lift-end j i d xs h = let e : i - j ≡ 0 = omega arith in rw e
-
   -- All from the first on.
   lift-first : (k : ℕ) (d y : A) (ys : List A) → k ≤ length ys → lift k 0 d (y ∷ ys) ≡ y ∷ (take k (y ∷ ys) ++ drop k ys)
   unfolding lift
@@ -52,8 +37,29 @@ module _ {ℓ} {A : Type ℓ} where
   lift-behind zero j d y ys = refl
   lift-behind (suc k) j d y ys = rw (add-suc k j) (lift-behind k j d y (set ys (suc (k + j)) (get_or ys (k + j) d)))
 
+  -- The same as a copy one place up.
+  lift-copy : (k j : ℕ) (d : A) (xs : List A) → k + j < length xs → take (suc j) xs ++ take k (drop j xs) ++ drop (suc (j + k)) xs ≡ lift k j d xs
+  lift-copy k j d [] h = absurd (omega arith)
+  lift-copy k zero d (y ∷ ys) h =
+      let e : zero + k ≡ k = omega arith in
+      ap (λ i. take 1 (y ∷ ys) ++ take k (y ∷ ys) ++ drop (suc i) (y ∷ ys)) e ∙ sym (lift-first k d y ys (omega arith))
+  lift-copy k (suc j) d (y ∷ ys) h =
+      let e : suc j + k ≡ suc (j + k) = omega arith in
+      ap (λ i. take (suc (suc j)) (y ∷ ys) ++ take k (drop j ys) ++ drop i ys) e
+      ∙ ap (λ (l : List A). y ∷ l) (lift-copy k j d ys (omega arith))
+      ∙ sym (lift-behind k j d y ys)
+
+  pub lift_copied : (j top : ℕ) (d : A) (xs : List A) → j ≤ top → top < length xs → paste xs (j + 1) (drop j xs) (top - j) ≡ lift (top - j) j d xs
+  lift_copied j top d xs h l =
+      let k : ℕ = top - j in
+      let e : suc j + k ≡ suc (j + k) = omega arith in
+      ap (λ i. take i xs ++ take k (drop j xs) ++ drop (i + k) xs) (add-one j)
+      ∙ ap (λ i. take (suc j) xs ++ take k (drop j xs) ++ drop i xs) e
+      ∙ lift-copy k j d xs (omega arith)
+
   -- What is then put at the j-th stands before those that went up.
-  pub lift-put : (k j : ℕ) (d x : A) (xs : List A) → k + j < length xs → take (suc (k + j)) (set (lift k j d xs) j x) ≡ take j xs ++ x ∷ take k (drop j xs)
+  pub lift-put : (k j : ℕ) (d x : A) (xs : List A) → k + j < length xs
+      → take (suc (k + j)) (set (lift k j d xs) j x) ≡ take j xs ++ x ∷ take k (drop j xs)
   lift-put k j d x [] h = absurd (omega arith)
   lift-put k zero d x (y ∷ ys) h =
       rw (add-zero k, lift-first k d y ys (omega arith))
@@ -82,4 +88,5 @@ module _ {ℓ} {A : Type ℓ} where
       let e : suc top - suc j ≡ top - j = omega arith in
       rw e
       (ap (λ (zs : List A). y ∷ zs)
-      (kept_new size n j top x ys (omega arith) (omega arith) (⊎_elim (λ e. inl (omega arith)) (λ e. inr (omega arith, omega arith)) c) (omega arith)))
+      (kept_new size n j top x ys (omega arith) (omega arith) (⊎_elim (λ e. inl (omega arith)) (λ e. inr (omega arith, omega arith)) c)
+      (omega arith)))

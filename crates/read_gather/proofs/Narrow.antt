@@ -48,7 +48,8 @@ record Full (n last : ℕ) (es : List Entry) : Type 0 where
 module _ (n last : ℕ) where
   over : (e : Entry) (es : List Entry) → Full n last es → last < e.key → take n (put e es) ≡ es
   over e es f h =
-      ap (take n) (put-above 0 (suc last) e es f.keys h) ∙ take-append-le n es (e ∷ []) (omega (arith, f.long)) ∙ ap (λ m. take m es) (sym f.long) ∙ take-length es
+      ap (take n) (put-above 0 (suc last) e es f.keys h) ∙ take-append-le n es (e ∷ []) (omega (arith, f.long)) ∙ ap (λ m. take m es) (sym f.long)
+      ∙ take-length es
 
   full_put : (e : Entry) (es : List Entry) → Full n last es → Full n last (take n (put e es))
   full_put e es f =
@@ -87,7 +88,8 @@ module _ (n last : ℕ) where
         (λ r. rw (none, r) (ap (intake n (within low high xs)) (over x es f (leb-false k last q)) ∙ narrow xs es f))
         (λ r. rw (none, r) (narrow xs es f)))
 
-    narrow-on : (xss : List (List Entry)) (es : List Entry) → Full n last es → gather_on n (ranges low high xss) es ≡ gather_on n (ranges low (min high last) xss) es
+    narrow-on : (xss : List (List Entry)) (es : List Entry) → Full n last es
+        → gather_on n (ranges low high xss) es ≡ gather_on n (ranges low (min high last) xss) es
     narrow-on [] es f = refl
     narrow-on (xs ∷ xss) es f =
         let r = narrow-on xss es f in

@@ -42,7 +42,8 @@ record From (n : ℕ) (s : List ℕ) (at low high b : ℕ) : Type 0 where
   rises : Rises low (map key_of (entries_at (n - b) s (position_at b s at)))
   same : within low high (entries_at n s at) ≡ within low high (entries_at (n - b) s (position_at b s at))
 
-from : (n : ℕ) (s : List ℕ) (at least low high : ℕ) → Rises least (map key_of (entries_at n s at)) → From n s at low high (count_below low (entries_at n s at))
+from : (n : ℕ) (s : List ℕ) (at least low high : ℕ) → Rises least (map key_of (entries_at n s at))
+    → From n s at low high (count_below low (entries_at n s at))
 unfolding entries_at count_below position_at within
 from zero s at least low high h = record { rises = tt; same = refl }
 from (suc n) s at least low high h =
@@ -79,7 +80,8 @@ module _ (s : List ℕ) (low high n i at : ℕ) (up : Rises low (map key_of (ent
     up' = rw split at up
 
     pub turn-rises : Rises low (map key_of (entries_at (n - (i + 1)) s (at + length_at s at)))
-    turn-rises = rises-lower (suc (entry_at s at).key) low (map key_of (entries_at (n - (i + 1)) s (at + length_at s at))) (let f = up'.0 in omega arith) up'.1
+    turn-rises =
+        rises-lower (suc (entry_at s at).key) low (map key_of (entries_at (n - (i + 1)) s (at + length_at s at))) (let f = up'.0 in omega arith) up'.1
 
     pub turn_one : key_at s at ≤ high
         → within low high (entries_at (n - i) s at) ≡ entry_at s at ∷ within low high (entries_at (n - (i + 1)) s (at + length_at s at))
@@ -90,7 +92,9 @@ module _ (s : List ℕ) (low high n i at : ℕ) (up : Rises low (map key_of (ent
         rw split (rw (le-leb low (entry_at s at).key f, le-leb (entry_at s at).key high (omega arith)))
 
     pub turn-over : high < key_at s at → within low high (entries_at (n - i) s at) ≡ []
-    turn-over b = rw split (over low high (entry_at s at ∷ entries_at (n - (i + 1)) s (at + length_at s at)) (let k = entry_at-key s at in (omega arith, up'.1)))
+    turn-over b =
+        rw split
+        (over low high (entry_at s at ∷ entries_at (n - (i + 1)) s (at + length_at s at)) (let k = entry_at-key s at in (omega arith, up'.1)))
 
   pub turn_end : n ≤ i → within low high (entries_at (n - i) s at) ≡ []
   unfolding entries_at within

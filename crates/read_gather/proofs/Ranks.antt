@@ -86,7 +86,11 @@ module _ {ℓ} {A : Type ℓ} where
       cases (leb k j)
       (λ q. let d : j ≡ k → ⊥ = λ s. (rw q at h) (omega arith) s in
       let b = leb-true k j q in
-      rw (q, lt-ltb k j (cases (ltb k j) (λ t. borrow.Author.Tests.ltb-true k j t) (λ t. absurd (d (omega (arith, borrow.Author.Tests.ltb-false k j t)))))))
+      rw (
+        q,
+        lt-ltb k j (cases (ltb k j) (λ t. borrow.Author.Tests.ltb-true k j t)
+            (λ t. absurd (d (omega (arith, borrow.Author.Tests.ltb-false k j t))))),
+      ))
       (λ q. let b = leb-false k j q in
       let h' = rw q at h in
       rw (q, le-ltb k j (omega arith), ne_eqb k j (λ s. omega arith))

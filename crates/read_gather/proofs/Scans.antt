@@ -40,7 +40,8 @@ gather-apart low mid high xss yss zss hx hy hz =
     let b = order mid high yss hy in
     let wx = widen low low mid high xss (omega arith) b hx in
     let wy = widen mid low high high yss a (omega arith) hy in
-    let split : (k : ℕ) (us vs : List (List Entry)) → find k (gather (us ++ (vs ++ zss))) ≡ or_else (find k (gather us)) (or_else (find k (gather vs)) (find k (gather zss))) = λ k us vs.
+    let split : (k : ℕ) (us vs : List (List Entry))
+    → find k (gather (us ++ (vs ++ zss))) ≡ or_else (find k (gather us)) (or_else (find k (gather vs)) (find k (gather zss))) = λ k us vs.
     find-gather k (us ++ (vs ++ zss)) ∙ ap (find k) (flat_append us (vs ++ zss)) ∙ find-append k (flat us) (flat (vs ++ zss))
     ∙ ap (or_else (find k (flat us))) (ap (find k) (flat_append vs zss) ∙ find-append k (flat vs) (flat zss))
     ∙ rw (sym (find-gather k us), sym (find-gather k vs), sym (find-gather k zss)) in
@@ -49,8 +50,10 @@ gather-apart low mid high xss yss zss hx hy hz =
     (keys-gather low high (yss ++ (xss ++ zss)) (all-keys-append low high yss (xss ++ zss) wy (all-keys-append low high xss zss wx hz)))
     (λ k. split k xss yss
     ∙ cases (ltb k mid)
-    (λ q. or_else-swap (find k (gather xss)) (find k (gather yss)) (find k (gather zss)) (inr (find-below k mid high (gather yss) (keys-gather mid high yss hy) (ltb-true k mid q))))
-    (λ q. or_else-swap (find k (gather xss)) (find k (gather yss)) (find k (gather zss)) (inl (find-above k low mid (gather xss) (keys-gather low mid xss hx) (ltb-false k mid q))))
+    (λ q. or_else-swap (find k (gather xss)) (find k (gather yss)) (find k (gather zss))
+    (inr (find-below k mid high (gather yss) (keys-gather mid high yss hy) (ltb-true k mid q))))
+    (λ q. or_else-swap (find k (gather xss)) (find k (gather yss)) (find k (gather zss))
+    (inl (find-above k low mid (gather xss) (keys-gather low mid xss hx) (ltb-false k mid q))))
     ∙ sym (split k yss xss))
 
 -- ---- over entries that are there
@@ -70,7 +73,8 @@ on-gather n low high (xs ∷ xss) es hx he =
     ∙ intake-newer n low high xs (gather (xss ++ (es ∷ []))) hx.0
     (keys-gather low high (xss ++ (es ∷ [])) (all-keys-append low high xss (es ∷ []) hx.1 (he, keys-order low high es he)))
 
-pub on-apart : (n low mid high : ℕ) (xss yss : List (List Entry)) (es : List Entry) → AllKeys low mid xss → AllKeys mid high yss → Keys low high es → length es ≤ n
+pub on-apart : (n low mid high : ℕ) (xss yss : List (List Entry)) (es : List Entry) → AllKeys low mid xss → AllKeys mid high yss → Keys low high es
+    → length es ≤ n
     → gather_on n (xss ++ yss) es ≡ gather_on n (yss ++ xss) es
 on-apart n low mid high xss yss es hx hy he few =
     let a = order low mid xss hx in
@@ -78,7 +82,8 @@ on-apart n low mid high xss yss es hx hy he few =
     let wx = widen low low mid high xss (omega arith) b hx in
     let wy = widen mid low high high yss a (omega arith) hy in
     let whole : take n es ≡ es = take_all n es few in
-    let one : (us vs : List (List Entry)) → AllKeys low high us → AllKeys low high vs → gather_on n (us ++ vs) es ≡ take n (gather (us ++ (vs ++ (es ∷ [])))) = λ us vs hu hv.
+    let one : (us vs : List (List Entry)) → AllKeys low high us → AllKeys low high vs
+    → gather_on n (us ++ vs) es ≡ take n (gather (us ++ (vs ++ (es ∷ [])))) = λ us vs hu hv.
     ap (gather_on n (us ++ vs)) (sym whole) ∙ on-gather n low high (us ++ vs) es (all-keys-append low high us vs hu hv) he
     ∙ ap (λ (zss : List (List Entry)). take n (gather zss)) (append_assoc us vs (es ∷ [])) in
     one xss yss wx wy ∙ ap (take n) (gather-apart low mid high xss yss (es ∷ []) hx hy (he, keys-order low high es he)) ∙ sym (one yss xss wy wx)

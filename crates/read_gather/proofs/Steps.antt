@@ -21,7 +21,7 @@ use Rattle.book.proofs.Rows.{no_link}
 use Rattle.read.specs.Shown.{Legible}
 use Rattle.read.proofs.Shows.{table-shown, slice-shown, links-long, link-shown}
 use Rattle.ldc.proofs.Basics.Cases.{cases}
-use Rattle.read_gather.specs.Beside.{Rises}
+use Rattle.read_gather.specs.Beside.{Rises, InUse}
 use Rattle.read_gather.specs.Gathered.{intake, gathered, Gathers, TakenIn}
 use Rattle.read_gather.proofs.Intake.{gathered-range}
 use Rattle.read_gather.specs.Sources.{gather_on, ranges, TakenAll}
@@ -38,6 +38,11 @@ on_none n (es ∷ rest) = ap (intake n es) (on_none n rest)
 
 pub none-taken : (area keys spots : List ℕ) (n : ℕ) → n ≤ length keys → Rises 0 (take n keys) → TakenAll area [] keys spots n keys spots n
 none-taken area keys spots n l u = record { inside = l; rises = u; gathers = λ behind es g. g }
+
+-- Then they are in use as before.
+pub in_use : {area : List ℕ} {xss : List (List Entry)} {keys spots : List ℕ} {n : ℕ} {keys' spots' : List ℕ} {r : ℕ} → InUse keys spots n
+    → TakenAll area xss keys spots n keys' spots' r → length keys' ≡ length keys → length spots' ≡ length spots → InUse keys' spots' r
+in_use u t k s = (rw k t.inside, (t.rises, s ∙ u.1.1 ∙ sym k))
 
 pub both-taken : (area : List ℕ) (xss yss : List (List Entry)) (k₀ s₀ : List ℕ) (n₀ : ℕ) (k₁ s₁ : List ℕ) (n₁ : ℕ) (k₂ s₂ : List ℕ) (n₂ : ℕ)
     → length k₁ ≡ length k₀ → TakenAll area yss k₀ s₀ n₀ k₁ s₁ n₁ → TakenAll area xss k₁ s₁ n₁ k₂ s₂ n₂ → TakenAll area (xss ++ yss) k₀ s₀ n₀ k₂ s₂ n₂
@@ -58,7 +63,8 @@ place-before area behind base h =
     sym (ap (take place_size) (drop-append-le base area behind (omega arith))
     ∙ take-append-le place_size (drop base area) behind (simp length-drop (omega arith)))
 
-pub one-taken : (area : List ℕ) (base low high : ℕ) (keys spots : List ℕ) (n : ℕ) (keys' spots' : List ℕ) (r : ℕ) → base + place_size ≤ length area → base % place_size ≡ 0
+pub one-taken : (area : List ℕ) (base low high : ℕ) (keys spots : List ℕ) (n : ℕ) (keys' spots' : List ℕ) (r : ℕ) → base + place_size ≤ length area
+    → base % place_size ≡ 0
     → TakenIn (place_at base area) base low high keys spots n keys' spots' r
     → TakenAll area (within low high (entries (place_at base area)) ∷ []) keys spots n keys' spots' r
 one-taken area base low high keys spots n keys' spots' r h z t = record {
@@ -105,13 +111,15 @@ within-within a b c d (e ∷ es) =
     rw (leb-max a c k, leb-min b d k) (four (leb a k) (leb k b) (leb c k) (leb k d)) in
     cases (leb c k && leb k d)
     (λ q. cases (leb a k && leb k b)
-    (λ r. let y : (leb (max a c) k && leb k (min b d)) ≡ true = t ∙ rw (q, r) in rw (q, y, r) (ap (λ (l : List Entry). e ∷ l) (within-within a b c d es)))
+    (λ r. let y : (leb (max a c) k && leb k (min b d)) ≡ true = t ∙ rw (q, r) in
+    rw (q, y, r) (ap (λ (l : List Entry). e ∷ l) (within-within a b c d es)))
     (λ r. let y : (leb (max a c) k && leb k (min b d)) ≡ false = t ∙ rw (q, r) in rw (q, y, r) (within-within a b c d es)))
     (λ q. let y : (leb (max a c) k && leb k (min b d)) ≡ false = t ∙ rw q in rw (q, y) (within-within a b c d es))
 
 -- ---- links
 
-pub newest : {A B : Type 0} (f : A → B) (xs : List A) (i : ℕ) (d : A) → i < length xs → map f (reverse (take (i + 1) xs)) ≡ f (get_or xs i d) ∷ map f (reverse (take i xs))
+pub newest : {A B : Type 0} (f : A → B) (xs : List A) (i : ℕ) (d : A) → i < length xs
+    → map f (reverse (take (i + 1) xs)) ≡ f (get_or xs i d) ∷ map f (reverse (take i xs))
 newest f xs i d h =
     ap (λ j. map f (reverse (take j xs))) (add-one i)
     ∙ ap (map f) (ap reverse (take-suc xs i d h) ∙ reverse-append (take i xs) (get_or xs i d ∷ []))
@@ -153,7 +161,8 @@ sources-ranges area cards g p low high =
 -- ---- from nothing on
 
 -- What is gathered from nothing on: the first entries of the range, as many as there is room for.
-pub taken-gathers : (area behind : List ℕ) (sources : List (List Entry)) (low high from to : ℕ) (keys spots keys' spots' : List ℕ) (r : ℕ) → AllKeys from to sources
+pub taken-gathers : (area behind : List ℕ) (sources : List (List Entry)) (low high from to : ℕ) (keys spots keys' spots' : List ℕ) (r : ℕ)
+    → AllKeys from to sources
     → TakenAll area (ranges low high sources) keys spots 0 keys' spots' r
     → Gathers (area ++ behind) keys' spots' r (take (length keys) (within low high (gather sources)))
 taken-gathers area behind sources low high from to keys spots keys' spots' r h t =

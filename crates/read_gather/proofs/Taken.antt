@@ -59,7 +59,8 @@ module _ (s : List ℕ) (base low high : ℕ) (keys₀ spots₀ : List ℕ) (n :
       rises = l.up;
       gathers = λ bytes es p g.
           let w = l.gives bytes es p g in
-          let t : intake (length keys₀) (within low high (entries s)) es ≡ w.es = w.same ∙ ap (λ (left : List Entry). intake (length keys₀) left w.es) e in
+          let t : intake (length keys₀) (within low high (entries s)) es ≡ w.es =
+          w.same ∙ ap (λ (left : List Entry). intake (length keys₀) left w.es) e in
           rw t w.gathers;
     }
 
@@ -70,7 +71,8 @@ module _ (s : List ℕ) (base low high : ℕ) (keys₀ spots₀ : List ℕ) (n :
     stops key h k b = done (turn-over s low high count i at l.rises h (rw k at b))
 
     pub turns : (key : ℕ) (keys' spots' : List ℕ) (used' len : ℕ) → length s ≡ place_size → Stands s at → i < count → key ≡ key_at s at → key ≤ high
-        → Inserted keys spots used key (base + at) keys' spots' used' → length keys' ≡ length keys → length spots' ≡ length spots → len ≡ length_at s at
+        → Inserted keys spots used key (base + at) keys' spots' used' → length keys' ≡ length keys → length spots' ≡ length spots
+        → len ≡ length_at s at
         → Left s base low high keys₀ spots₀ n keys' spots' used' (entries_at (count - (i + 1)) s (at + len))
     turns key keys' spots' used' len z st h k b ins kl sl e =
         let one = turn_one s low high count i at l.rises h (rw k at b) in
@@ -85,7 +87,8 @@ module _ (s : List ℕ) (base low high : ℕ) (keys₀ spots₀ : List ℕ) (n :
               let w = l.gives bytes es p g in
               let x : entry_at bytes (base + at) ≡ entry_at s at = seat-shown bytes s base at p.0 head st.room in
               let q : (entry_at bytes (base + at)).key ≡ key = ap key_of x ∙ entry_at-key s at ∙ sym k in
-              let more = gathers-put bytes keys spots used key (base + at) keys' spots' used' w.es w.gathers ins kl (seat bytes s base at p.0 head st z p.1) q in
+              let more =
+              gathers-put bytes keys spots used key (base + at) keys' spots' used' w.es w.gathers ins kl (seat bytes s base at p.0 head st z p.1) q in
               let L : ℕ = length keys₀ in
               record {
                 es = take L (put (entry_at s at) w.es);

@@ -63,7 +63,8 @@ module _ (area : List ℕ) (cards : List (List ℕ)) (b : Bytes area) (g : Legib
         let same : link_at (get_or cards p []) at.0 ≡ l = sym (link-shown area cards g p h at.0 no_link few) ∙ at.2 in
         (readable area cards g l.place b (rw same at (g.linked p at.0 h few))).keys
 
-    slices-spanned : (ls : List Link) → ((l : Link) → Memᴰ l ls → Memᴰ l (links S p)) → AllKeys (span_start S p) (suc (span_end S p)) (map (slice S) ls)
+    slices-spanned : (ls : List Link) → ((l : Link) → Memᴰ l ls → Memᴰ l (links S p))
+        → AllKeys (span_start S p) (suc (span_end S p)) (map (slice S) ls)
     unfolding slice span_start span_end
     slices-spanned [] h = omega (arith, span-order S p (readable area cards g p b t))
     slices-spanned (l ∷ ls) h =
@@ -104,8 +105,10 @@ module _ (area : List ℕ) (cards : List (List ℕ)) (b : Bytes area) (g : Legib
   tables-spanned low (p ∷ ps) r h =
       let o = top-order (suc (span_end S p)) ps h.2 in
       all-keys-append low (top_of (suc (span_end S p)) ps) (sources S p) (sources_of S ps)
-      (widen (span_start S p) low (suc (span_end S p)) (top_of (suc (span_end S p)) ps) (sources S p) h.0 o (sources-spanned p (r p (Memᴰ.head refl))))
-      (widen (suc (span_end S p)) low (top_of (suc (span_end S p)) ps) (top_of (suc (span_end S p)) ps) (sources_of S ps) (omega (arith, h.0, h.1)) (omega arith)
+      (widen (span_start S p) low (suc (span_end S p)) (top_of (suc (span_end S p)) ps) (sources S p) h.0 o
+      (sources-spanned p (r p (Memᴰ.head refl))))
+      (widen (suc (span_end S p)) low (top_of (suc (span_end S p)) ps) (top_of (suc (span_end S p)) ps) (sources_of S ps) (omega (arith, h.0, h.1))
+      (omega arith)
       (tables-spanned (suc (span_end S p)) ps (λ q m. r q (Memᴰ.tail m)) h.2))
 
   -- ---- from one on
@@ -121,7 +124,8 @@ module _ (area : List ℕ) (cards : List (List ℕ)) (b : Bytes area) (g : Legib
       (λ q. rw q (λ h. let e = ltb-true (span_end S p) low q in
       ap (λ (xss : List (List Entry)). gather_on n xss es) (map-append (within low high) (sources S p) (sources_of S ps))
       ∙ on-append n (ranges low high (sources S p)) (ranges low high (sources_of S ps)) es
-      ∙ on_below n low high (span_start S p) (suc (span_end S p)) (sources S p) (gather_on n (ranges low high (sources_of S ps)) es) (sources-spanned p (r p (Memᴰ.head refl))) e
+      ∙ on_below n low high (span_start S p) (suc (span_end S p)) (sources S p) (gather_on n (ranges low high (sources_of S ps)) es)
+      (sources-spanned p (r p (Memᴰ.head refl))) e
       ∙ passed n low high ps i es (λ x m. r x (Memᴰ.tail m)) (omega arith)))
       (λ q. rw q (λ h. absurd (omega arith)))
 
@@ -166,10 +170,13 @@ module _ (area : List ℕ) (cards : List (List ℕ)) (b : Bytes area) (g : Legib
             let p : ℕ = get_or items i 0 in
             let e : ℕ = suc (span_end S p) in
             let rs = rest-spans i h in
-            goes_on area (ranges low high (sources_of S items)) keys₀ spots₀ n keys spots used (ranges low high (sources S p)) (left (i + 1)) e (top_of e (drop (suc i) items)) keys' spots' used'
+            goes_on area (ranges low high (sources_of S items)) keys₀ spots₀ n keys spots used (ranges low high (sources S p)) (left (i + 1)) e
+            (top_of e (drop (suc i) items)) keys' spots' used'
             (rw (sym (split i h)) w)
-            (keys-ranges low high 0 e (sources S p) (widen (span_start S p) 0 e e (sources S p) (omega arith) (omega arith) (sources-spanned p (r.listed i h))))
-            (rw (add-one i) (keys-ranges low high e (top_of e (drop (suc i) items)) (sources_of S (drop (suc i) items)) (tables-spanned e (drop (suc i) items) (listed (suc i)) rs)))
+            (keys-ranges low high 0 e (sources S p) (widen (span_start S p) 0 e e (sources S p) (omega arith) (omega arith)
+            (sources-spanned p (r.listed i h))))
+            (rw (add-one i) (keys-ranges low high e (top_of e (drop (suc i) items)) (sources_of S (drop (suc i) items))
+            (tables-spanned e (drop (suc i) items) (listed (suc i)) rs)))
             (narrow-taken low high (sources S p) keys used w.up some area spots keys' spots' used' t) kl sl
 
         -- The range ends in the span of the table before.

@@ -60,7 +60,9 @@ module _ (area : List ℕ) (cards : List (List ℕ)) (lists head : List ℕ) (lo
   lower-one k some most =
       let c : level_count - (k - 1) ≡ suc (level_count - k) = omega arith in
       let e : suc (k - 1) ≡ k = omega arith in
-      rw (c, e) (map-append (within low high) (sources_of (shown_by area cards) (items_in (length cards) lists head (k - 1))) (levels_from area cards lists head (level_count - k) k))
+      rw (c, e)
+      (map-append (within low high) (sources_of (shown_by area cards) (items_in (length cards) lists head (k - 1)))
+      (levels_from area cards lists head (level_count - k) k))
 
 -- The memory table, level 0 and the levels below are the read order.
 pub order-ranges : (m : Lent) (k : Kept m) → length m.memory ≡ place_size → Bytes m.memory → Bytes m.area → (low high : ℕ)

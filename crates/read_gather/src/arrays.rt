@@ -1,6 +1,6 @@
 // Two arrays that are sorted by key: the keys, and where the entries stand. A newer entry takes the place of an older one under its key;
 // where the arrays are full, the greatest key goes.
-ghost use Rattle.std.specs.Prelude.{◌≡◌, ◌+◌, ◌-◌, ◌≤◌, ◌<◌, ◌^◌, min, length, take};
+ghost use Rattle.std.specs.Prelude.{◌≡◌, ◌+◌, ◌-◌, ◌≤◌, ◌<◌, ◌^◌, length, take};
 ghost use Rattle.table.specs.Limits.{place_size};
 ghost use Rattle.table.specs.Table.{MemoryPlace};
 ghost use Rattle.read_gather.specs.Beside.{Rises, rank, lift, InUse, Inserted};
@@ -14,14 +14,12 @@ fn slot(keys: &[u64], n: usize, key: u64) -> usize
     requires { (n ≤ length keys.now) × Rises 0 (take n keys.now) }
     ensures { result ≡ rank key (take n keys.now) }
 {
-    let mut j = n;
-    while 0 < j {
-        if keys[j - 1] < key {
-            return j;
+    for j in (0..n).rev() {
+        if keys[j] < key {
+            return j + 1;
         }
-        j -= 1;
     }
-    j
+    0
 }
 
 // The words from the j-th up to the one below `top` go up by one.
@@ -29,19 +27,7 @@ fn raise(words: &mut [u64], j: usize, top: usize)
     requires { (j ≤ top) × (top < length words.old) }
     ensures { words.new ≡ lift (top - j) j 0 words.old }
 {
-    let mut i = top;
-    while j < i {
-        words[i] = words[i - 1];
-        i -= 1;
-    }
-}
-
-// The last of the words that are in use after one more was put among n of them: the greatest goes where there is no room.
-fn last_of(n: usize, size: usize) -> usize
-    requires { 0 < size }
-    ensures { result ≡ min n (size - 1) }
-{
-    if n < size { n } else { size - 1 }
+    words.copy_within(j..top, j + 1);
 }
 
 // Puts a key and its word among the first n, in place of those under the same key; how many are then in use.
@@ -50,16 +36,15 @@ fn insert(keys: &mut [u64], words: &mut [u64], n: usize, key: u64, word: u64) ->
     ensures { Inserted keys.old words.old n key word keys.new words.new result }
 {
     let j = slot(keys, n, key);
-    if j < n {
-        if keys[j] == key {
-            words[j] = word;
-            return n;
-        }
+    if j < n && keys[j] == key {
+        words[j] = word;
+        return n;
     }
     if keys.len() <= j {
         return n;
     }
-    let top = last_of(n, keys.len());
+    // The last that is then in use: the greatest key goes where there is no room.
+    let top = n.min(keys.len() - 1);
     raise(keys, j, top);
     raise(words, j, top);
     keys[j] = key;
@@ -82,22 +67,16 @@ pub fn take_in(
     ensures { TakenIn s.now base low.value high.value
         keys.old spots.old n keys.new spots.new result }
 {
-    let count = search::count(s);
-    let from = low.value;
-    let first = search::first_from(s, Key { value: from });
-    let mut i = first.index;
+    let first = search::first_from(s, low);
     let mut at = first.at;
     let mut used = n;
-    while i < count {
+    for _ in first.index..search::count(s) {
         let key = entry::key_at(s, at);
-        if high.below(key) {
+        if high < key {
             return used;
         }
-        let k = key.value;
-        let spot = base + at;
-        used = insert(keys, spots, used, k, spot as u64);
-        at += entry::length_at(s, at) as usize;
-        i += 1;
+        used = insert(keys, spots, used, key.value, (base + at) as u64);
+        at += usize::from(entry::length_at(s, at));
     }
     used
 }

@@ -1,6 +1,6 @@
 // The tables of a level below gathered upward, from the one whose span can hold the low key to the first in whose span the range ends. Where
 // the arrays are full, it ends at their last key.
-ghost use Rattle.std.specs.Prelude.{◌≡◌, ◌-◌, ◌≤◌, ◌<◌, length};
+ghost use Rattle.std.specs.Prelude.{◌≡◌, ◌≤◌, ◌<◌, length};
 ghost use Rattle.read.specs.Shown.{Legible, Rising, shown_in};
 ghost use Rattle.read_gather.specs.Beside.{InUse};
 ghost use Rattle.read_gather.specs.Sources.{ranges, TakenFrom};
@@ -20,14 +20,7 @@ pub fn up_to(keys: &[u64], n: usize, high: Key) -> Key
         return high;
     }
     let last = Key { value: keys[n - 1] };
-    high.lesser(last)
-}
-
-// One less, where there is one.
-fn less_one(n: usize) -> usize
-    ensures { result ≡ n - 1 }
-{
-    if 0 < n { n - 1 } else { 0 }
+    high.min(last)
 }
 
 // What is read of the tables of a level below, as far as it lies in a range.
@@ -45,17 +38,16 @@ pub fn in_level(
         × (Rising area.now cards.now items.now × ((0 < length keys.old) × InUse keys.old spots.old n)) }
     ensures { TakenFrom area (ranges low.value high.value (sources_of (shown_in area cards) items.now)) keys spots n result }
 {
-    let mut i = less_one(level::count_reached(area, cards, items, low));
+    let first = level::count_reached(area, cards, items, low).saturating_sub(1);
     let mut used = n;
     let mut top = up_to(keys, n, high);
-    while i < items.len() {
-        let p = items[i] as usize;
+    for p in &items[first..] {
+        let p = usize::from(*p);
         used = sources::in_sources(area, cards, p, low, top, keys, spots, used);
         top = up_to(keys, used, high);
         if level::reaches(area, cards, p, top) {
             return used;
         }
-        i += 1;
     }
     used
 }

@@ -45,15 +45,13 @@ fn in_links(
         (ranges low.value high.value (map (slice (shown_in area cards)) (reverse (links (shown_in area cards) p))))
         keys spots n result }
 {
-    let count = row::link_count(&cards[p]) as usize;
-    let mut i = 0;
+    let row = &cards[p];
     let mut used = n;
-    while i < count {
-        let link = row::link_at(&cards[p], i);
-        let from = low.greater(link.low);
-        let to = high.lesser(link.high);
+    for i in 0..row::link_count(row) as usize {
+        let link = row::link_at(row, i);
+        let from = low.max(link.low);
+        let to = high.min(link.high);
         used = in_table(area, link.place, from, to, keys, spots, used);
-        i += 1;
     }
     used
 }
@@ -89,12 +87,9 @@ pub fn in_newest(
     requires { Listed area.now items.now × InUse keys.old spots.old n }
     ensures { TakenFrom area (ranges low.value high.value (map (table_in area) (reverse items.now))) keys spots n result }
 {
-    let mut i = 0;
     let mut used = n;
-    while i < items.len() {
-        let p = items[i] as usize;
-        used = in_table(area, p, low, high, keys, spots, used);
-        i += 1;
+    for p in items {
+        used = in_table(area, usize::from(*p), low, high, keys, spots, used);
     }
     used
 }

@@ -33,10 +33,8 @@ fn in_lower(
         × ((0 < length keys.old) × InUse keys.old spots.old n) }
     ensures { TakenFrom area (ranges low.value high.value (lower_of area cards lists head)) keys spots n result }
 {
-    let mut k = LEVELS;
     let mut used = n;
-    while 1 < k {
-        k -= 1;
+    for k in (1..LEVELS).rev() {
         let items = list::items(lists, cards.len(), head.length_of(k), k);
         used = level::in_level(area, cards, items, low, high, keys, spots, used);
     }

@@ -4,7 +4,7 @@ use Prim.Native.Nat.{ℕ, ◌+◌, ◌*◌, ◌≤◌, ◌<◌, ◌^◌}
 use mathlib.Core.Path.{◌≡◌, refl, sym, ◌∙◌, ap}
 use mathlib.Core.List.{List, [], ◌∷◌, ◌++◌, append-nil}
 use mathlib.Core.Bool.{true, false, ◌&&◌}
-use mathlib.Core.Option.{Option, none}
+use mathlib.Core.Option.{Option, some, none}
 use native.Mathlib.Omega.{arith}
 use lib.ListN.{length, get_or, length-append}
 use Rattle.table.specs.Entry.{Entry}
@@ -25,7 +25,6 @@ use Rattle.ldc.proofs.Stores.Opened.{unopened, opened-skip, opened-cons, opened-
 use Rattle.book.specs.Rows.{shown_by}
 use Rattle.read.specs.Shown.{Legible, Summed}
 use Rattle.read.specs.Found.{hit_entry, Hits}
-use Rattle.read.specs.declared.found.Hit.TheVariants.{At}
 use Rattle.read.proofs.Hits.{hit-none, hit-nothing, met}
 use Rattle.read.proofs.Shows.{table-shown}
 use Rattle.read_get.specs.Opens.{BitsOf, the_hit, Opens, joined}
@@ -99,7 +98,7 @@ module _ (area : List ℕ) (cards : List (List ℕ)) (k : ℕ) where
 
   module _ (ps qs : List ℕ) (a : Opened) (o : Opens area cards k ps a) where
     -- What was met in the first decides.
-    hits : a.found ≡ true → the_hit a ≡ At a.place a.at
+    hits : a.found ≡ true → the_hit a ≡ some (record { place = a.place; at = a.at })
     hits h = rw h
 
     there : a.found ≡ true → is_some (find k (tables S ps)) ≡ true

@@ -21,7 +21,7 @@ use Rattle.read_get.specs.declared.opened.Opened.{Opened}
 use Rattle.read_get.proofs.Opening.{Idle, opens-none}
 use Rattle.read_get.proofs.Asking.{few-ranges, own-outside}
 
-no_length : (xs : List ℕ) → length xs ≡ 0 → xs ≡ []
+pub no_length : (xs : List ℕ) → length xs ≡ 0 → xs ≡ []
 no_length [] h = refl
 no_length (x ∷ xs) h = absurd (omega arith)
 

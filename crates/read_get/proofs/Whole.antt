@@ -12,7 +12,7 @@ use Rattle.table.specs.Limits.{place_size}
 use Rattle.table.specs.Entry.{Entry, entry_at}
 use Rattle.table.specs.Table.{entries}
 use Rattle.table.specs.Search.{find, find_in, shown}
-use Rattle.table.specs.declared.search.Found.TheVariants as found
+use Rattle.std.specs.Prelude as code
 use Rattle.table.proofs.Found.{shown-find}
 use Rattle.ldc.specs.Lists.{keep, flat}
 use Rattle.ldc.specs.Store.{Store, card, links, bytes_at, table, span_start, span_end, span_holds}
@@ -147,13 +147,13 @@ module _ (m : Lent) (k : ℕ) where
         ∙ sym (find-append k (entries m.memory) (tables S all))
 
     -- Where memory decides, no table is opened; else those that the walk opens.
-    pub memory-decides : (at : ℕ) → find_in m.memory k ≡ found.At at → opened (store_of m) k ≡ []
+    pub memory-decides : (at : ℕ) → find_in m.memory k ≡ code.Some at → opened (store_of m) k ≡ []
     unfolding opened store_of shown
     memory-decides at h =
         let there : find k (entries m.memory) ≡ some (entry_at m.memory at) = sym (shown-find m.memory k) ∙ ap (shown m.memory) h in
         rw there
 
-    pub tables-decide : find_in m.memory k ≡ found.Nothing → opened (store_of m) k ≡ opened_of S k all
+    pub tables-decide : find_in m.memory k ≡ code.None → opened (store_of m) k ≡ opened_of S k all
     tables-decide h =
         let missed : find k (store_of m).memory ≡ none = unfold store_of shown in (sym (shown-find m.memory k) ∙ ap (shown m.memory) h) in
         opened-tables (store_of m) missed ∙ ap (opened_of (store_of m) k) (sym asked-kept) ∙ sym (same-opened all)

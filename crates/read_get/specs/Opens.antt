@@ -1,5 +1,6 @@
 -- A walk through the tables asked about a key (document 02, note 6): what it may assume, and what it finds and opens.
 use Rattle.std.specs.Prelude.{ℕ, zero, suc, ◌+◌, ◌≡◌, cond, List, [], ◌++◌, map, reverse, length}
+use Rattle.std.proofs.Math.Option.{Option, some, none}
 use Rattle.coding.specs.declared.key.Key.{Key}
 use Rattle.table.specs.Search.{find}
 use Rattle.summary.specs.Bits.{exclusive_bit, sum_bit, weighed_bit}
@@ -13,9 +14,7 @@ use Rattle.book.specs.Pieces.{Words, Rows}
 use Rattle.book.specs.Rows.{shown_by}
 use Rattle.book.specs.declared.head.Head.{Head}
 use Rattle.read.specs.Shown.{Legible, LinksSummed}
-use Rattle.read.specs.Found.{Hits}
-use Rattle.read.specs.declared.found.Hit.{Hit}
-use Rattle.read.specs.declared.found.Hit.TheVariants.{At, Nothing}
+use Rattle.read.specs.Found.{Hit, Hits}
 use Rattle.read_get.specs.declared.opened.Opened.{Opened}
 
 -- ---- what a walk may assume
@@ -35,8 +34,8 @@ pub record Asking (area : List ℕ) (cards : List (List ℕ)) (key : ℕ) (bits 
 -- ---- what it finds and opens
 
 -- Where the entry that was found stands.
-abbrev pub the_hit : Opened → Hit
-the_hit r = cond r.found (At r.place r.at) Nothing
+abbrev pub the_hit : Opened → Option Hit
+the_hit r = cond r.found (some (record { place = r.place; at = r.at })) none
 
 -- Of the tables asked, in this order: the entry that decides; how many were opened up to it; and the bits set in their summaries.
 pub record Opens (area : List ℕ) (cards : List (List ℕ)) (key : ℕ) (asked : List ℕ) (r : Opened) : Type 0 where

@@ -19,7 +19,7 @@ fn open_at(area: &[u8], cards: &[Row], items: &[u16], i: usize, key: Key, bits: 
     if items.len() <= i {
         return opened::nothing();
     }
-    tables::open_sources(area, cards, items[i] as usize, key, bits)
+    tables::open_sources(area, cards, usize::from(items[i]), key, bits)
 }
 
 // A level: the last table with a least key of at most this, and then the next, whose links may reach down to it.

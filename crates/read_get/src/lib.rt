@@ -24,7 +24,6 @@ use read::found::Spot;
 use summary::bits;
 use summary::bits::KeyBits;
 use table::search;
-use table::search::Found;
 
 mod level;
 mod opened;
@@ -35,7 +34,7 @@ use opened::Opened;
 // Where the deciding entry stands; how many tables were opened to find it, and how many bits are set in their summaries.
 #[derive(Clone, Copy)]
 pub struct Probed {
-    pub spot: Spot,
+    pub spot: Option<Spot>,
     pub tables: usize,
     pub bits: usize,
 }
@@ -52,16 +51,14 @@ fn open_lower(
     requires { Levels area.now cards.now lists.now (head_words head) × BitsOf key.value bits }
     ensures { OpensIn area cards key (lower_asked area cards lists head key) result }
 {
-    let mut n = 1;
     let mut seen = opened::nothing();
-    while n < LEVELS {
+    for n in 1..LEVELS {
         let items = list::items(lists, cards.len(), head.length_of(n), n);
         let next = level::open_level(area, cards, items, key, bits);
         seen = opened::then(seen, next);
         if seen.found {
             return seen;
         }
-        n += 1;
     }
     seen
 }
@@ -98,9 +95,9 @@ pub fn probe(
         ≡ bits_in (store_of (held area.now cards.now lists.now head memory.now))
         (opened (store_of (held area.now cards.now lists.now head memory.now)) key.value))) }
 {
-    if let Found::At(at) = search::find(memory, key) {
+    if let Some(at) = search::find(memory, key) {
         return Probed {
-            spot: Spot::Memory(at),
+            spot: Some(Spot::Memory(at)),
             tables: 0,
             bits: 0,
         };
@@ -108,13 +105,13 @@ pub fn probe(
     let seen = open_tables(area, cards, lists, head, key);
     if seen.found {
         return Probed {
-            spot: Spot::Place(seen.place, seen.at),
+            spot: Some(Spot::Place(seen.place, seen.at)),
             tables: seen.tables,
             bits: seen.bits,
         };
     }
     Probed {
-        spot: Spot::Nothing,
+        spot: None,
         tables: seen.tables,
         bits: seen.bits,
     }
@@ -128,12 +125,11 @@ pub fn look_up(
     head: Head,
     memory: &[u8],
     key: Key,
-) -> Spot
+) -> Option<Spot>
     requires { Readable (given area.now cards.now lists.now head memory.now) }
     ensures { SpotsIn area memory
         (seeking.find key.value (flat (read_order (store_of (held area.now cards.now lists.now head memory.now)))))
         result }
 {
-    let told = probe(area, cards, lists, head, memory, key);
-    told.spot
+    probe(area, cards, lists, head, memory, key).spot
 }

@@ -15,7 +15,6 @@ use book::row::{Link, Row};
 use coding::key::Key;
 use read::{level, place};
 use summary::bits::KeyBits;
-use table::search::Found;
 
 // A place's table, if its summary has all three bits.
 fn open_table(area: &[u8], cards: &[Row], p: usize, key: Key, three: KeyBits) -> Opened
@@ -26,7 +25,7 @@ fn open_table(area: &[u8], cards: &[Row], p: usize, key: Key, three: KeyBits) ->
         return opened::nothing();
     }
     let bits = row::bits_set(&cards[p]);
-    let Found::At(at) = place::find(area, p, key) else {
+    let Some(at) = place::find(area, p, key) else {
         return Opened {
             found: false,
             place: p,
@@ -49,9 +48,7 @@ fn open_slice(area: &[u8], cards: &[Row], link: Link, key: Key, bits: KeyBits) -
     requires { Asking area.now cards.now key.value bits × Summed area.now cards.now link.place }
     ensures { OpensIn area cards key (ranges key.value (the_link link ∷ [])) result }
 {
-    let low = link.low;
-    let high = link.high;
-    if low.at_most(key) & key.at_most(high) {
+    if (link.low <= key) & (key <= link.high) {
         open_table(area, cards, link.place, key, bits)
     } else {
         opened::nothing()
@@ -63,11 +60,11 @@ fn open_links(area: &[u8], cards: &[Row], p: usize, key: Key, bits: KeyBits) -> 
     requires { Asking area.now cards.now key.value bits × (p < length cards.now) }
     ensures { OpensIn area cards key (ranges key.value (reverse (links (shown_in area cards) p))) result }
 {
-    let mut i = row::link_count(&cards[p]) as usize;
+    let row = &cards[p];
+    let n = row::link_count(row) as usize;
     let mut seen = opened::nothing();
-    while 0 < i {
-        i -= 1;
-        let next = open_slice(area, cards, row::link_at(&cards[p], i), key, bits);
+    for i in (0..n).rev() {
+        let next = open_slice(area, cards, row::link_at(row, i), key, bits);
         seen = opened::then(seen, next);
         if seen.found {
             return seen;
@@ -111,11 +108,9 @@ pub fn open_newest(area: &[u8], cards: &[Row], items: &[u16], key: Key, bits: Ke
         × (ListSummed area.now cards.now items.now × (length items.now ≤ most_places)) }
     ensures { OpensIn area cards key (reverse items.now) result }
 {
-    let mut i = items.len();
     let mut seen = opened::nothing();
-    while 0 < i {
-        i -= 1;
-        let next = open_table(area, cards, items[i] as usize, key, bits);
+    for &p in items.iter().rev() {
+        let next = open_table(area, cards, usize::from(p), key, bits);
         seen = opened::then(seen, next);
         if seen.found {
             return seen;

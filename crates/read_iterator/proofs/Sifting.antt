@@ -2,7 +2,7 @@
 use Prim.Native.Nat.{ℕ, suc, ◌+◌, ◌≤◌, ◌<◌}
 use mathlib.Core.Path.{◌≡◌, refl, sym, ◌∙◌, ap}
 use mathlib.Core.Bool.{Bool, true, false}
-use mathlib.Core.List.{List, [], ◌∷◌, ◌++◌, map, append_assoc, append-nil, map-append}
+use mathlib.Core.List.{List, [], ◌∷◌, ◌++◌, map, append_assoc, map-append}
 use native.Mathlib.Omega.{arith}
 use native.Mathlib.Numerals.{add-one}
 use lib.ListN
@@ -15,7 +15,7 @@ use Rattle.ldc.proofs.Basics.ListLaws.{get_d_map}
 use Rattle.read_gather.specs.Gathered.{key_of, SeatedIn, AllSeated, Gathers}
 use Rattle.read_gather.proofs.Means.{map-take, seated-take, seated-get, seated-more, same_at, same-behind}
 use Rattle.read_gather.proofs.Narrow.{gathered-long}
-use Rattle.read_iterator.specs.Values.{values_from, Sifted}
+use Rattle.read_iterator.specs.Values.{values_from}
 
 -- ---- one more, and fewer
 
@@ -96,14 +96,6 @@ module _ (bytes keys₀ spots₀ : List ℕ) (from n : ℕ) (few : n ≤ length 
   }
 
   module _ (keys spots : List ℕ) (kept i : ℕ) (s : Sifting bytes keys₀ spots₀ from n keys spots kept i) where
-    pub sift-ends : n ≤ i → Sifted bytes keys₀ spots₀ from n keys spots kept
-    sift-ends h = record {
-      gathers = λ es g.
-          let w = s.gives es g in
-          let none : drop i es ≡ [] = drop_of_length-le es {i = i} (omega (arith, gathered-long bytes keys₀ spots₀ n es g)) in
-          rw (w.same ∙ ap (λ (xs : List Entry). w.front ++ keep holds_value xs) none ∙ append-nil w.front) w.gathers;
-    }
-
     module _ (h : i < n) where
       pub sift-seated : SeatedIn bytes (get_or spots i 0)
       sift-seated =

@@ -35,15 +35,13 @@ fn keep_values(
         keys.new spots.new result }
 {
     let mut kept = from;
-    let mut i = from;
-    while i < n {
+    for i in from..n {
         let at = spots[i];
         keys[kept] = keys[i];
         spots[kept] = at;
         if spot::is_value(area, memory, at as usize) {
             kept += 1;
         }
-        i += 1;
     }
     kept
 }

@@ -10,8 +10,10 @@ use lib.Dec.{eqb, eqb-suc-zero}
 use lib.ListN.{length}
 use Rattle.coding.specs.Key.{lines}
 use Rattle.reading.specs.declared.interval.Reading.{Reading}
+use Rattle.std.specs.Prelude.{Result, Err}
 use Rattle.reading.specs.declared.interval.Interval.{Interval}
-use Rattle.reading.specs.declared.body.KeyRange.TheVariants.{OutOfRange}
+use Rattle.reading.specs.declared.interval.Refused.{Refused}
+use Rattle.reading.specs.declared.interval.Refused.TheVariants.{OutOfRange}
 use Rattle.reading.specs.Reading.{interval_of}
 use Rattle.reading.specs.Body.{form_in, line_in, millimetre_form, kilometre_form, millimetre_length, kilometre_length}
 use Rattle.reading.specs.Body.{millimetres_in, kilometres_in, length_good, keys_on, keys_of, keys_in}
@@ -82,17 +84,17 @@ module _ (body : List ℕ) where
   unfolding keys_in
   in-kilometres e = rw (eq-eqb (form_in body) kilometre_form e, ne_eqb (form_in body) millimetre_form (omega arith))
 
-  pub in-no-form : 2 ≤ form_in body → OutOfRange ≡ keys_in body
+  pub in-no-form : 2 ≤ form_in body → Err OutOfRange ≡ keys_in body
   unfolding keys_in
   in-no-form h = rw (ne_eqb (form_in body) millimetre_form (omega arith), ne_eqb (form_in body) kilometre_form (omega arith))
 
 -- ---- the keys of a reading, by its line and interval
 
 module _ (line : ℕ) (r : Reading) where
-  pub no_line : lines ≤ line → OutOfRange ≡ keys_of line r
+  pub no_line : lines ≤ line → Err OutOfRange ≡ keys_of line r
   unfolding keys_of
   no_line h = rw (le-ltb line lines h)
 
-  pub on-a-line : line < lines → (i : Interval) → i ≡ interval_of r → keys_on line i ≡ keys_of line r
+  pub on-a-line : line < lines → (i : Result Interval Refused) → i ≡ interval_of r → keys_on line i ≡ keys_of line r
   unfolding keys_of
   on-a-line h i e = rw (lt-ltb line lines h, e)

@@ -10,15 +10,15 @@ use borrow.Author.Tests.{ltb-true, leb-true}
 use lib.Dec.{ltb, leb, eqb}
 use lib.Pow.{pow_pos, pow_mono}
 use lib.Ieee.{Float, binary32, to_bits}
-use Rattle.coding.specs.declared.key.Key.{Key}
 use Rattle.coding.specs.Key.{lines, distances}
 use Rattle.reading.specs.declared.interval.Reading.{Reading}
 use Rattle.reading.specs.declared.interval.Reading.TheVariants.{Millimetres, Kilometres}
+use Rattle.std.specs.Prelude.{Result, Ok, Err}
 use Rattle.reading.specs.declared.interval.Interval.{Interval}
-use Rattle.reading.specs.declared.interval.Interval.TheVariants.{Between, OutOfRange, NoMillimetre}
+use Rattle.reading.specs.declared.interval.Refused.{Refused}
+use Rattle.reading.specs.declared.interval.Refused.TheVariants.{OutOfRange, NoMillimetre}
 use Rattle.reading.specs.declared.body.KeyRange.{KeyRange}
-use Rattle.reading.specs.declared.body.KeyRange.TheVariants as keys
-use Rattle.reading.specs.Reading.{farthest, significand, scale, above, least, greatest, float_interval, outside, interval_of}
+use Rattle.reading.specs.Reading.{farthest, significand, scale, above, least, greatest, between, float_interval, outside, interval_of}
 use Rattle.reading.specs.Body.{form_in, line_in, millimetre_form, kilometre_form, millimetres_in, kilometres_in, keys_on, keys_of, keys_in}
 use Rattle.reading.proofs.Floats.{significand-lt}
 use Rattle.reading.proofs.Range.{let-through-le}
@@ -26,10 +26,9 @@ use Rattle.reading.proofs.Range.{let-through-le}
 -- ---- of an interval
 
 -- The ends of an interval that has some are in order, and fit their bits.
-abbrev Ordered : Interval → Type 0
-Ordered (Between low high) = (low ≤ high) × (high < distances)
-Ordered OutOfRange = Unit {0}
-Ordered NoMillimetre = Unit {0}
+abbrev Ordered : Result Interval Refused → Type 0
+Ordered (Ok i) = (i.low ≤ i.high) × (i.high < distances)
+Ordered (Err e) = Unit {0}
 
 quotient : (s j o : ℕ) → s < 16777216 → 7 ≤ 145 - j → ((4 * s + 2) * 15625 - o) / 2 ^ (145 - j) < 2 ^ 40
 quotient s j o h k =
@@ -41,15 +40,15 @@ greatest-lt : (b : ℕ) → b ≤ farthest → greatest b < distances
 unfolding greatest above scale
 greatest-lt b h = quotient (significand b) (scale b) (b % 2) (significand-lt b) (omega arith)
 
-one-ordered : (m : ℕ) (t : Bool) → ltb m distances ≡ t → Ordered (cond t (Between m m) OutOfRange)
+one-ordered : (m : ℕ) (t : Bool) → ltb m distances ≡ t → Ordered (cond t (between m m) (Err OutOfRange))
 one-ordered m true e = let small : m < distances = ltb-true _ _ e in (omega arith, small)
 one-ordered m false e = tt
 
-two-ordered : (low high : ℕ) (t : Bool) → leb low high ≡ t → high < distances → Ordered (cond t (Between low high) NoMillimetre)
+two-ordered : (low high : ℕ) (t : Bool) → leb low high ≡ t → high < distances → Ordered (cond t (between low high) (Err NoMillimetre))
 two-ordered low high true e h = (leb-true _ _ e, h)
 two-ordered low high false e h = tt
 
-float-ordered : (x : Float) (t : Bool) → outside x ≡ t → Ordered (cond t OutOfRange (float_interval (to_bits binary32 x % 2 ^ 31)))
+float-ordered : (x : Float) (t : Bool) → outside x ≡ t → Ordered (cond t (Err OutOfRange) (float_interval (to_bits binary32 x % 2 ^ 31)))
 unfolding float_interval
 float-ordered x true e = tt
 float-ordered x false e =
@@ -61,24 +60,22 @@ ordered (Millimetres m) = one-ordered m (ltb m distances) refl
 ordered (Kilometres x) = float-ordered x (outside x) refl
 
 -- The same where they are known.
-pub interval-ends : (r : Reading) (low high : ℕ) → interval_of r ≡ Between low high → (low ≤ high) × (high < distances)
-interval-ends r low high e = rw e at (ordered r)
+pub interval-ends : (r : Reading) (i : Interval) → interval_of r ≡ Ok i → (i.low ≤ i.high) × (i.high < distances)
+interval-ends r i e = rw e at (ordered r)
 
 -- ---- of keys
 
 -- The keys are in order, fit 64 bits, and are on one line.
-abbrev OnOneLine : KeyRange → Type 0
-OnOneLine (keys.Between low high) =
-    (low.value ≤ high.value) × (high.value < 2 ^ 64) × (low.value / distances ≡ high.value / distances)
-OnOneLine keys.OutOfRange = Unit {0}
-OnOneLine keys.NoMillimetre = Unit {0}
+abbrev OnOneLine : Result KeyRange Refused → Type 0
+OnOneLine (Ok k) =
+    (k.low.value ≤ k.high.value) × (k.high.value < 2 ^ 64) × (k.low.value / distances ≡ k.high.value / distances)
+OnOneLine (Err e) = Unit {0}
 
-on_line : (line : ℕ) (i : Interval) → line < lines → Ordered i → OnOneLine (keys_on line i)
-on_line line (Between low high) h o = (omega arith, omega arith, omega arith)
-on_line line OutOfRange h o = tt
-on_line line NoMillimetre h o = tt
+on_line : (line : ℕ) (i : Result Interval Refused) → line < lines → Ordered i → OnOneLine (keys_on line i)
+on_line line (Ok i) h o = (omega arith, omega arith, omega arith)
+on_line line (Err e) h o = tt
 
-line_of : (line : ℕ) (r : Reading) (t : Bool) → ltb line lines ≡ t → OnOneLine (cond t (keys_on line (interval_of r)) keys.OutOfRange)
+line_of : (line : ℕ) (r : Reading) (t : Bool) → ltb line lines ≡ t → OnOneLine (cond t (keys_on line (interval_of r)) (Err OutOfRange))
 line_of line r true e = on_line line (interval_of r) (ltb-true _ _ e) (ordered r)
 line_of line r false e = tt
 
@@ -86,7 +83,7 @@ keys-of-ends : (line : ℕ) (r : Reading) → OnOneLine (keys_of line r)
 unfolding keys_of
 keys-of-ends line r = line_of line r (ltb line lines) refl
 
-by_form : (a b : Bool) (x y : KeyRange) → OnOneLine x → OnOneLine y → OnOneLine (cond a x (cond b y keys.OutOfRange))
+by_form : (a b : Bool) (x y : Result KeyRange Refused) → OnOneLine x → OnOneLine y → OnOneLine (cond a x (cond b y (Err OutOfRange)))
 by_form true b x y p q = p
 by_form false true x y p q = q
 by_form false false x y p q = tt
@@ -100,6 +97,6 @@ keys-in-ends body =
     (keys-of-ends (line_in body) (kilometres_in body))
 
 -- The same where they are known.
-pub keys-ends : (body : List ℕ) (low high : Key) → keys_in body ≡ keys.Between low high
-    → (low.value ≤ high.value) × (high.value < 2 ^ 64) × (low.value / distances ≡ high.value / distances)
-keys-ends body low high e = rw e at (keys-in-ends body)
+pub keys-ends : (body : List ℕ) (k : KeyRange) → keys_in body ≡ Ok k
+    → (k.low.value ≤ k.high.value) × (k.high.value < 2 ^ 64) × (k.low.value / distances ≡ k.high.value / distances)
+keys-ends body k e = rw e at (keys-in-ends body)

@@ -8,19 +8,20 @@ use lib.Dec.{T, leb, eqb, nleb→lt}
 use lib.Ieee.{binary32, of_bits, to_bits}
 use lib.Ieee.Bits.{to_bits-of_bits}
 use Rattle.reading.specs.declared.interval.Reading.TheVariants.{Kilometres}
-use Rattle.reading.specs.declared.interval.Interval.TheVariants.{Between, OutOfRange, NoMillimetre}
-use Rattle.reading.specs.Reading.{farthest, least, greatest, float_interval, outside, interval_of}
+use Rattle.std.specs.Prelude.{Err}
+use Rattle.reading.specs.declared.interval.Refused.TheVariants.{OutOfRange, NoMillimetre}
+use Rattle.reading.specs.Reading.{farthest, least, greatest, between, float_interval, outside, interval_of}
 use Rattle.reading.specs.Exact.{In, RoundsTo, Exact}
 use Rattle.reading.proofs.Halfway.{within-rounds, rounds-within}
 use Rattle.reading.proofs.Bounds.{within-between, between-within}
 use Rattle.reading.proofs.Range.{outside-bits, not-nan}
 
 -- An interval is that of two ends, or none where they are upside down.
-ends-in : (m lo hi : ℕ) (t : Bool) → (T (not t) → hi < lo) → lo ≤ m → m ≤ hi → In m (cond t (Between lo hi) NoMillimetre)
+ends-in : (m lo hi : ℕ) (t : Bool) → (T (not t) → hi < lo) → lo ≤ m → m ≤ hi → In m (cond t (between lo hi) (Err NoMillimetre))
 ends-in m lo hi true n a b = (a, b)
 ends-in m lo hi false n a b = let upside-down : hi < lo = n tt in absurd (omega arith)
 
-in-ends : (m lo hi : ℕ) (t : Bool) → In m (cond t (Between lo hi) NoMillimetre) → (lo ≤ m) × (m ≤ hi)
+in-ends : (m lo hi : ℕ) (t : Bool) → In m (cond t (between lo hi) (Err NoMillimetre)) → (lo ≤ m) × (m ≤ hi)
 in-ends m lo hi true h = h
 in-ends m lo hi false h = absurd h
 
@@ -37,13 +38,13 @@ no_other b m range e =
     ends-in m (least b) (greatest b) (leb (least b) (greatest b)) (nleb→lt (least b) (greatest b)) w.0 w.1
 
 by_bits : (b : ℕ) → b < 2 ^ 32
-    → interval_of (Kilometres (of_bits binary32 b)) ≡ cond (leb b farthest || eqb b (2 ^ 31)) (float_interval (b % 2 ^ 31)) OutOfRange
+    → interval_of (Kilometres (of_bits binary32 b)) ≡ cond (leb b farthest || eqb b (2 ^ 31)) (float_interval (b % 2 ^ 31)) (Err OutOfRange)
 unfolding interval_of
 by_bits b h = go (outside (of_bits binary32 b)) (leb b farthest || eqb b 2147483648) refl (outside-bits b h)
   where
     go : (t u : Bool) → outside (of_bits binary32 b) ≡ t → outside (of_bits binary32 b) ≡ not u
-        → cond (outside (of_bits binary32 b)) OutOfRange (float_interval (to_bits binary32 (of_bits binary32 b) % 2147483648))
-        ≡ cond u (float_interval (b % 2147483648)) OutOfRange
+        → cond (outside (of_bits binary32 b)) (Err OutOfRange) (float_interval (to_bits binary32 (of_bits binary32 b) % 2147483648))
+        ≡ cond u (float_interval (b % 2147483648)) (Err OutOfRange)
     go true true e f = absurd (true≢false (sym e ∙ f))
     go true false e f = rw e
     go false true e f = rw (e, to_bits-of_bits binary32 b h (not-nan (of_bits binary32 b) e))

@@ -1,16 +1,16 @@
 -- The body of a request by a reading (document 02, note 8): line (4 bytes, below 2^24), form (2) and reading (form 0: 8 bytes of
 -- millimetres; form 1: 4 bytes of float).
-use Rattle.std.specs.Prelude.{ℕ, ◌+◌, List, Bool, cond, ◌||◌, ltb, eqb, length}
+use Rattle.std.specs.Prelude.{ℕ, ◌+◌, List, Bool, cond, ◌||◌, ltb, eqb, length, Result, Ok, Err}
 use Rattle.std.specs.Float.{binary32}
 use Rattle.std.specs.Float.Ieee.{of_bits}
 use Rattle.coding.specs.Number.{number_at}
 use Rattle.coding.specs.Key.{lines, key_on}
 use Rattle.reading.specs.declared.body.KeyRange.{KeyRange}
-use Rattle.reading.specs.declared.body.KeyRange.TheVariants.{Between, OutOfRange, NoMillimetre}
 use Rattle.reading.specs.declared.interval.Reading.{Reading}
 use Rattle.reading.specs.declared.interval.Reading.TheVariants.{Millimetres, Kilometres}
 use Rattle.reading.specs.declared.interval.Interval.{Interval}
-use Rattle.reading.specs.declared.interval.Interval.TheVariants as millimetres
+use Rattle.reading.specs.declared.interval.Refused.{Refused}
+use Rattle.reading.specs.declared.interval.Refused.TheVariants.{OutOfRange}
 use Rattle.reading.specs.Reading.{interval_of}
 
 -- ---- the parts of a body
@@ -63,16 +63,15 @@ length_good body =
 -- Number 23, `OutOfRange`: line, form or millimetres out of range, or a float below nought, above 4,096 kilometres or not a number.
 -- Number 24, `NoMillimetre`: no whole millimetre rounds to it.
 
-abbrev pub keys_on : (line : ℕ) → Interval → KeyRange
-keys_on line (millimetres.Between low high) = Between (key_on line low) (key_on line high)
-keys_on line millimetres.OutOfRange = OutOfRange
-keys_on line millimetres.NoMillimetre = NoMillimetre
+abbrev pub keys_on : (line : ℕ) → Result Interval Refused → Result KeyRange Refused
+keys_on line (Ok i) = Ok (record { low = key_on line i.low; high = key_on line i.high })
+keys_on line (Err e) = Err e
 
 -- A line out of range comes before a float that no millimetre rounds to.
-unfoldable pub keys_of : (line : ℕ) → Reading → KeyRange
-keys_of line r = cond (ltb line lines) (keys_on line (interval_of r)) OutOfRange
+unfoldable pub keys_of : (line : ℕ) → Reading → Result KeyRange Refused
+keys_of line r = cond (ltb line lines) (keys_on line (interval_of r)) (Err OutOfRange)
 
-unfoldable pub keys_in : (body : List ℕ) → KeyRange
+unfoldable pub keys_in : (body : List ℕ) → Result KeyRange Refused
 keys_in body =
     cond (eqb (form_in body) millimetre_form) (keys_of (line_in body) (millimetres_in body))
-    (cond (eqb (form_in body) kilometre_form) (keys_of (line_in body) (kilometres_in body)) OutOfRange)
+    (cond (eqb (form_in body) kilometre_form) (keys_of (line_in body) (kilometres_in body)) (Err OutOfRange))

@@ -1,14 +1,15 @@
 -- Readings (document 02, note 8). A reading is either whole millimetres or a 32-bit float in kilometres; it stands for the millimetre given,
 -- or for every whole millimetre whose exact distance, rounded to the nearest float with ties to even, is that float. The bound is stated
 -- over whole numbers from the float's bits; `specs/Exact.antt` says that these are the millimetres meant.
-use Rattle.std.specs.Prelude.{ℕ, ◌+◌, ◌-◌, ◌*◌, ◌/◌, ◌%◌, ◌^◌, Bool, false, cond, ◌&&◌, ◌||◌, ltb, leb, eqb, pos, Float}
+use Rattle.std.specs.Prelude.{ℕ, ◌+◌, ◌-◌, ◌*◌, ◌/◌, ◌%◌, ◌^◌, Bool, false, cond, ◌&&◌, ◌||◌, ltb, leb, eqb, pos, Float, Result, Ok, Err}
 use Rattle.std.specs.Float.{fin, binary32}
 use Rattle.std.specs.Float.Ieee.{lt, is_nan, to_bits}
 use Rattle.coding.specs.Key.{distances}
 use Rattle.reading.specs.declared.interval.Reading.{Reading}
 use Rattle.reading.specs.declared.interval.Reading.TheVariants.{Millimetres, Kilometres}
 use Rattle.reading.specs.declared.interval.Interval.{Interval}
-use Rattle.reading.specs.declared.interval.Interval.TheVariants.{Between, OutOfRange, NoMillimetre}
+use Rattle.reading.specs.declared.interval.Refused.{Refused}
+use Rattle.reading.specs.declared.interval.Refused.TheVariants.{OutOfRange, NoMillimetre}
 
 -- ---- a float that is not negative, by its 32 bits b
 
@@ -42,9 +43,13 @@ least b = cond (eqb b 0) 0 ((below b * 15625 - 1 + b % 2) / 2 ^ (145 - scale b) 
 unfoldable pub greatest : (b : ℕ) → ℕ
 greatest b = (above b * 15625 - b % 2) / 2 ^ (145 - scale b)
 
+-- The millimetres from one to another, both included.
+abbrev pub between : (low high : ℕ) → Result Interval Refused
+between low high = Ok (record { low = low; high = high })
+
 -- There may be none.
-unfoldable pub float_interval : (b : ℕ) → Interval
-float_interval b = cond (leb (least b) (greatest b)) (Between (least b) (greatest b)) NoMillimetre
+unfoldable pub float_interval : (b : ℕ) → Result Interval Refused
+float_interval b = cond (leb (least b) (greatest b)) (between (least b) (greatest b)) (Err NoMillimetre)
 
 -- ---- what a reading stands for
 
@@ -57,6 +62,6 @@ unfoldable pub outside : Float → Bool
 outside x = (lt x (fin false 0 (pos 0)) || lt (fin false 1 (pos 12)) x) || is_nan x
 
 -- Millimetres fit a key's distance. Minus zero reads as zero: the sign's bit is left out.
-unfoldable pub interval_of : Reading → Interval
-interval_of (Millimetres m) = cond (ltb m distances) (Between m m) OutOfRange
-interval_of (Kilometres x) = cond (outside x) OutOfRange (float_interval (to_bits binary32 x % 2 ^ 31))
+unfoldable pub interval_of : Reading → Result Interval Refused
+interval_of (Millimetres m) = cond (ltb m distances) (between m m) (Err OutOfRange)
+interval_of (Kilometres x) = cond (outside x) (Err OutOfRange) (float_interval (to_bits binary32 x % 2 ^ 31))

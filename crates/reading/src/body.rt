@@ -2,20 +2,16 @@
 ghost use Rattle.std.specs.Prelude.{◌≡◌, true};
 ghost use Rattle.reading.specs.Body.{length_good, keys_of, keys_in};
 
-use super::interval::{Interval, Reading};
+use super::interval::{Reading, Refused};
 use super::{float, interval};
 use coding::key::Key;
 use coding::{key, number};
 
-// The keys of a reading on a line.
-#[derive(Clone, Copy)]
-pub enum KeyRange {
-    // From the first to the second, both included.
-    Between(Key, Key),
-    // The line has more than 24 bits, the form does not exist, or the reading is out of range.
-    OutOfRange,
-    // No whole millimetre rounds to the float.
-    NoMillimetre,
+// The keys of a reading on a line, from the first to the second, both included.
+#[derive(Clone, Copy, PartialEq, Eq)]
+pub struct KeyRange {
+    pub low: Key,
+    pub high: Key,
 }
 
 // Where the parts of a body begin, and where it ends in each form.
@@ -29,14 +25,10 @@ const MILLIMETRES_END: usize = READING + 8;
 
 const KILOMETRES_END: usize = READING + 4;
 
-// The forms of a reading, and those that do not exist.
+// The forms of a reading. Others do not exist.
 const MILLIMETRES: u16 = 0;
 
 const KILOMETRES: u16 = 1;
-
-const FIRST_UNKNOWN: u16 = 2;
-
-const LAST_UNKNOWN: u16 = 65535;
 
 // Number 17: has the body the length of its form? A form that does not exist may have either length.
 pub fn length_good(body: &[u8]) -> bool
@@ -53,21 +45,22 @@ pub fn length_good(body: &[u8]) -> bool
 }
 
 // The keys of a reading on a line.
-pub fn keys_of(line: u32, reading: Reading) -> KeyRange
+#[tactic(auto, using(crate::proofs::Bodies::no_line))]
+pub fn keys_of(line: u32, reading: Reading) -> Result<KeyRange, Refused>
     ensures { result ≡ keys_of line reading }
 {
     if line >= key::LINES {
-        return KeyRange::OutOfRange;
+        return Err(Refused::OutOfRange);
     }
-    match interval::interval_of(reading) {
-        Interval::Between(low, high) => KeyRange::Between(Key::on(line, low), Key::on(line, high)),
-        Interval::OutOfRange => KeyRange::OutOfRange,
-        Interval::NoMillimetre => KeyRange::NoMillimetre,
-    }
+    let millimetres = interval::interval_of(reading)?;
+    Ok(KeyRange {
+        low: Key::on(line, millimetres.low),
+        high: Key::on(line, millimetres.high),
+    })
 }
 
 // The keys of the reading in a body whose length is good.
-pub fn keys_in(body: &[u8]) -> KeyRange
+pub fn keys_in(body: &[u8]) -> Result<KeyRange, Refused>
     requires { length_good body.now ≡ true }
     ensures { result ≡ keys_in body.now }
 {
@@ -78,6 +71,6 @@ pub fn keys_in(body: &[u8]) -> KeyRange
             line,
             Reading::Kilometres(float::float_of(number::get_u32(body, READING))),
         ),
-        FIRST_UNKNOWN..=LAST_UNKNOWN => KeyRange::OutOfRange,
+        _ => Err(Refused::OutOfRange),
     }
 }

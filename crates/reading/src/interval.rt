@@ -14,12 +14,18 @@ pub enum Reading {
     Kilometres(f32),
 }
 
-// The millimetres of a reading.
-#[derive(Clone, Copy)]
-pub enum Interval {
-    // From the first to the second, both included.
-    Between(u64, u64),
-    // Millimetres of more than 40 bits, or a float below nought, above 4,096 kilometres or not a number.
+// The millimetres of a reading, from the first to the second, both included.
+#[derive(Clone, Copy, PartialEq, Eq)]
+pub struct Interval {
+    pub low: u64,
+    pub high: u64,
+}
+
+// Why a reading has none.
+#[derive(Clone, Copy, PartialEq, Eq)]
+pub enum Refused {
+    // Millimetres of more than 40 bits, or a float below nought, above 4,096 kilometres or not a number. In a request's body also a line
+    // of more than 24 bits, or a form that does not exist.
     OutOfRange,
     // No whole millimetre rounds to the float.
     NoMillimetre,
@@ -46,47 +52,48 @@ fn quarters_below(fraction: u32) -> u64
 }
 
 // The millimetres of a float from 0 to 4,096 kilometres, by its bits.
-pub fn float_interval(bits: u32) -> Interval
+pub fn float_interval(bits: u32) -> Result<Interval, Refused>
     requires { bits ≤ farthest }
     ensures { result ≡ float_interval bits }
 {
     if bits == 0 {
-        return Interval::Between(0, 0);
+        return Ok(Interval { low: 0, high: 0 });
     }
     let exponent = bits / FRACTIONS;
     let fraction = bits % FRACTIONS;
     if exponent < LEAST_EXPONENT {
-        return Interval::NoMillimetre;
+        return Err(Refused::NoMillimetre);
     }
-    let quarters = 4 * ((FRACTIONS + fraction) as u64);
+    let quarters = 4 * u64::from(FRACTIONS + fraction);
     let lower = (quarters - quarters_below(fraction)) * ODD_PART;
     let upper = (quarters + 2) * ODD_PART;
     // A tie goes to the even float, so an odd one has neither half way.
-    let odd = (bits % 2) as u64;
+    let odd = u64::from(bits % 2);
     let shift = MILLIMETRE - exponent;
     let low = ((lower - 1 + odd) >> shift) + 1;
     let high = (upper - odd) >> shift;
     if low <= high {
-        return Interval::Between(low, high);
+        Ok(Interval { low, high })
+    } else {
+        Err(Refused::NoMillimetre)
     }
-    Interval::NoMillimetre
 }
 
 // The millimetres of a reading. Minus zero, which no comparison refuses, reads as zero without its sign.
-pub fn interval_of(reading: Reading) -> Interval
+pub fn interval_of(reading: Reading) -> Result<Interval, Refused>
     ensures { result ≡ interval_of reading }
 {
     match reading {
         Reading::Millimetres(m) => {
             if m < key::DISTANCES {
-                Interval::Between(m, m)
+                Ok(Interval { low: m, high: m })
             } else {
-                Interval::OutOfRange
+                Err(Refused::OutOfRange)
             }
         }
         Reading::Kilometres(x) => {
             if (x < 0.0) | (x > 4096.0) | (x != x) {
-                Interval::OutOfRange
+                Err(Refused::OutOfRange)
             } else {
                 float_interval(f32::to_bits(x) % float::SIGN)
             }

@@ -106,7 +106,8 @@ module _ (s : List ℕ) (at : ℕ) where
   unfolding entry_to
   entry-short h = rw (lt-leb (at + entry_head) (length s) (omega arith))
 
-  pub entry-test : (len kind : ℕ) (formed : Bool) (r : Option ℕ) → at ≤ length s → entry_head ≤ length s - at → len ≡ length_at s at → kind ≡ kind_at s at
+  pub entry-test : (len kind : ℕ) (formed : Bool) (r : Option ℕ) → at ≤ length s → entry_head ≤ length s - at
+      → len ≡ length_at s at → kind ≡ kind_at s at
       → formed ≡ entry_form kind len → r ≡ ending (length s) at len formed → r ≡ entry_to s at
   unfolding entry_to
   entry-test len kind formed r h l p q f e = e ∙ rw (f, ← p, ← q, le-leb (at + entry_head) (length s) (omega arith))

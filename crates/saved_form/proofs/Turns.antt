@@ -1,16 +1,13 @@
 -- Fields one behind the other: the whole is what is left from the i-th on, one turn at a time. By induction they end within the bytes, if each
 -- does.
 use Prim.Native.Nat.{ℕ, zero, suc, ◌+◌, ◌-◌, ◌≤◌, ◌<◌}
-use mathlib.Core.Path.{◌≡◌, sym, ◌∙◌, ap}
+use mathlib.Core.Path.{◌≡◌, sym, ap}
 use mathlib.Core.Bool.{false≢true}
 use mathlib.Core.Option.{Option, some, none, get_or}
 use native.Mathlib.Omega.{arith}
 use Rattle.ldc.specs.Lists.{is_some}
 use Rattle.ldc.proofs.Basics.Cases.{maybe}
 use Rattle.saved_book.specs.Form.{then, in_turn}
-use Rattle.saved_form.specs.End.{the_end}
-use Rattle.saved_form.specs.declared.field.End.{End}
-use Rattle.saved_form.specs.declared.field.End.TheVariants.{At, Broken}
 
 module _ (n : ℕ) (f : ℕ → Option ℕ) where
   pub all_left : (at : ℕ) → in_turn n f at ≡ in_turn (n - 0) f at
@@ -32,14 +29,6 @@ module _ (n : ℕ) (f : ℕ → Option ℕ) where
 
       pub stops : none ≡ f at → none ≡ whole
       stops t = let u = rw (← t) at turned in sym u
-
--- What was found of one field.
-module _ {r : End} {o : Option ℕ} (e : the_end r ≡ o) where
-  pub met : {at : ℕ} → r ≡ At at → some at ≡ o
-  met h = sym (ap the_end h) ∙ e
-
-  pub missed : r ≡ Broken → none ≡ o
-  missed h = sym (ap the_end h) ∙ e
 
 -- Where so many fields end.
 pub turns-within : (m : ℕ) (f : ℕ → Option ℕ) → ((at e : ℕ) → f at ≡ some e → e ≤ m)

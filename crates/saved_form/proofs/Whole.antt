@@ -16,7 +16,7 @@ use Rattle.saved_book.specs.Saved.{saved_kind}
 use Rattle.saved_book.specs.Form.{whole_in, kind_in, places_saved, flag_saved1, key_saved1, flag_saved2, key_saved2, cards_start, head_form}
 use Rattle.saved_book.specs.Form.{card_to, list_to, entry_to, in_turn, memory_to, cards_to, lists_to, saved_form, lists_start, memory_start}
 use Rattle.saved_form.specs.Form.{form_of}
-use Rattle.saved_form.specs.declared.form.Form.TheVariants.{Book, Broken}
+use Rattle.std.specs.Prelude.{Some, None}
 use Rattle.saved_form.proofs.Fields.{card-within, list-within}
 use Rattle.saved_form.proofs.Turns.{turns-within}
 
@@ -65,31 +65,31 @@ module _ (s : List ℕ) where
 
   -- ---- the whole
 
-  pub no-head : head_form s ≡ false → Broken ≡ form_of s
+  pub no-head : head_form s ≡ false → None ≡ form_of s
   unfolding form_of saved_form
   no-head h = rw h
 
   module _ (h : head_form s ≡ true) where
-    pub no-cards : cards_to s ≡ none → Broken ≡ form_of s
+    pub no-cards : cards_to s ≡ none → None ≡ form_of s
     unfolding form_of saved_form
     no-cards c = rw (h, c)
 
     module _ (lists : ℕ) (c : cards_to s ≡ some lists) where
-      pub no-lists : lists_to s lists ≡ none → Broken ≡ form_of s
+      pub no-lists : lists_to s lists ≡ none → None ≡ form_of s
       unfolding form_of saved_form
       no-lists l = rw (h, c, l)
 
       module _ (memory : ℕ) (l : lists_to s lists ≡ some memory) where
-        pub no-memory : memory_to s memory ≡ none → Broken ≡ form_of s
+        pub no-memory : memory_to s memory ≡ none → None ≡ form_of s
         unfolding form_of saved_form
         no-memory m = rw (h, c, l, m)
 
         module _ (end : ℕ) (m : memory_to s memory ≡ some end) where
-          pub too_many : (end ≡ length s → ⊥) → Broken ≡ form_of s
+          pub too_many : (end ≡ length s → ⊥) → None ≡ form_of s
           unfolding form_of saved_form
           too_many d = rw (h, c, l, m, ne_eqb end (length s) d)
 
           pub a-book : (places : ℕ) → places ≡ places_saved s → end ≡ length s
-              → Book (record { places = places; lists = lists; memory = memory }) ≡ form_of s
+              → Some (record { places = places; lists = lists; memory = memory }) ≡ form_of s
           unfolding form_of saved_form lists_start memory_start
           a-book places p e = rw (h, c, l, m, eq-eqb end (length s) e, p)

@@ -7,7 +7,6 @@ ghost use Rattle.saved_book.specs.Saved.{number_size};
 ghost use Rattle.saved_book.specs.Form.{head_form};
 ghost use Rattle.saved_form.specs.Form.{form_of};
 
-use super::field::End;
 use super::{layout, parts};
 use book::limits;
 use coding::number;
@@ -18,12 +17,6 @@ pub struct Parts {
     pub places: usize,
     pub lists: usize,
     pub memory: usize,
-}
-
-#[derive(Clone, Copy)]
-pub enum Form {
-    Book(Parts),
-    Broken,
 }
 
 // Is the flag at a position 1, or 0 with a key of 0 behind it?
@@ -45,7 +38,7 @@ fn head_form(s: &[u8]) -> bool
     }
     let whole = number::get_u32(s, layout::WHOLE) as usize;
     let kind = number::get_u16(s, layout::KIND);
-    let places = number::get_u16(s, layout::PLACES) as usize;
+    let places = usize::from(number::get_u16(s, layout::PLACES));
     (whole == s.len())
         & ((kind == layout::SAVED_KIND)
             & ((limits::FEWEST_PLACES <= places)
@@ -53,27 +46,21 @@ fn head_form(s: &[u8]) -> bool
                     & (mark_form(s, layout::FLAG1) & mark_form(s, layout::FLAG2)))))
 }
 
-// Are these bytes of the form of a saved book, and where do its parts stand? Any bytes at all may be given.
-pub fn form_of(s: &[u8]) -> Form
+// Are these bytes of the form of a saved book? If so, where do its parts stand? Any bytes at all may be given.
+pub fn form_of(s: &[u8]) -> Option<Parts>
     ensures { result ≡ form_of s.now }
 {
     if !head_form(s) {
-        return Form::Broken;
+        return None;
     }
-    let End::At(lists) = parts::cards_to(s) else {
-        return Form::Broken;
-    };
-    let End::At(memory) = parts::lists_to(s, lists) else {
-        return Form::Broken;
-    };
-    let End::At(end) = parts::memory_to(s, memory) else {
-        return Form::Broken;
-    };
+    let lists = parts::cards_to(s)?;
+    let memory = parts::lists_to(s, lists)?;
+    let end = parts::memory_to(s, memory)?;
     if end != s.len() {
-        return Form::Broken;
+        return None;
     }
-    let places = number::get_u16(s, layout::PLACES) as usize;
-    Form::Book(Parts {
+    let places = usize::from(number::get_u16(s, layout::PLACES));
+    Some(Parts {
         places,
         lists,
         memory,

@@ -1,77 +1,61 @@
 // The cards, the lists and the memory entries of saved bytes: fields that stand one behind the other.
-ghost use Rattle.std.specs.Prelude.{◌≡◌, ◌≤◌, length};
-ghost use Rattle.saved_book.specs.Form.{cards_start, in_turn, entry_to, cards_to, lists_to, memory_to};
-ghost use Rattle.saved_form.specs.End.{the_end};
+ghost use Rattle.std.specs.Prelude.{◌≡◌, ℕ, ◌≤◌, length, Some};
+ghost use Rattle.saved_book.specs.Form.{cards_start, cards_to, lists_to, memory_to};
+ghost use Rattle.book.specs.Place.{the_index};
+ghost use Rattle.saved_form.specs.Turns.{Turns};
 
-use super::field::End;
 use super::{field, layout};
 use book::limits::LEVELS;
 use coding::number;
 use table::limits::TABLE_LIMIT;
 
-// Where the cards end, as many as places were saved.
-pub fn cards_to(s: &[u8]) -> End
-    requires { cards_start ≤ length s.now }
-    ensures { the_end result ≡ cards_to s.now }
+// Where so many fields end that stand one behind the other, the first at a position; `field` says where the one at a position ends.
+fn in_turn<F: Fn(&[u8], usize) -> Option<usize>>(
+    s: &[u8],
+    from: usize,
+    n: usize,
+    field: F,
+) -> Option<usize>
+    requires begun { from ≤ length s.now }
+    requires callable { (at : ℕ) → at ≤ length s.now → F.pre field s at }
+    requires within { (at end : ℕ) → at ≤ length s.now → F.post field s at (Some end) → end ≤ length s.now }
+    ensures { Turns (F.post field) s.now n from result }
 {
-    let n = number::get_u16(s, layout::PLACES) as usize;
-    let mut i = 0;
-    let mut at = layout::CARDS;
-    while i < n {
-        let End::At(next) = field::card_to(s, at) else {
-            return End::Broken;
-        };
-        at = next;
-        i += 1;
+    let mut at = from;
+    for _ in 0..n {
+        at = field(s, at)?;
     }
-    End::At(at)
+    Some(at)
+}
+
+// Where the cards end, as many as places were saved.
+pub fn cards_to(s: &[u8]) -> Option<usize>
+    requires { cards_start ≤ length s.now }
+    ensures { the_index result ≡ cards_to s.now }
+{
+    let n = usize::from(number::get_u16(s, layout::PLACES));
+    in_turn(s, layout::CARDS, n, field::card_to)
 }
 
 // Where the four lists end.
-pub fn lists_to(s: &[u8], from: usize) -> End
+pub fn lists_to(s: &[u8], from: usize) -> Option<usize>
     requires { (cards_start ≤ length s.now) × (from ≤ length s.now) }
-    ensures { the_end result ≡ lists_to s.now from }
+    ensures { the_index result ≡ lists_to s.now from }
 {
-    let mut i = 0;
-    let mut at = from;
-    while i < LEVELS {
-        let End::At(next) = field::list_to(s, at) else {
-            return End::Broken;
-        };
-        at = next;
-        i += 1;
-    }
-    End::At(at)
-}
-
-// Where so many entries end.
-fn entries_to(s: &[u8], from: usize, n: usize) -> End
-    requires { from ≤ length s.now }
-    ensures { the_end result ≡ in_turn n (entry_to s.now) from }
-{
-    let mut i = 0;
-    let mut at = from;
-    while i < n {
-        let End::At(next) = field::entry_to(s, at) else {
-            return End::Broken;
-        };
-        at = next;
-        i += 1;
-    }
-    End::At(at)
+    in_turn(s, from, LEVELS, field::list_to)
 }
 
 // Where the memory entries end, which stand behind their count: at most 16.
-pub fn memory_to(s: &[u8], at: usize) -> End
+pub fn memory_to(s: &[u8], at: usize) -> Option<usize>
     requires { at ≤ length s.now }
-    ensures { the_end result ≡ memory_to s.now at }
+    ensures { the_index result ≡ memory_to s.now at }
 {
     if s.len() - at < layout::NUMBER {
-        return End::Broken;
+        return None;
     }
-    let n = number::get_u16(s, at) as usize;
+    let n = usize::from(number::get_u16(s, at));
     if TABLE_LIMIT < n {
-        return End::Broken;
+        return None;
     }
-    entries_to(s, at + layout::NUMBER, n)
+    in_turn(s, at + layout::NUMBER, n, field::entry_to)
 }

@@ -1,7 +1,8 @@
--- The memory table's bytes: entries of their own form are written as they were read, so the table is its head, the bytes from the first entry to the end,
--- and zeros.
+-- The memory table's bytes: entries of their own form are written as they were read, so the table is its head, the bytes from the first entry
+-- to the end, and zeros.
 use Prim.Native.Nat.{ℕ, zero, suc, ◌+◌, ◌*◌, ◌-◌, ◌≤◌}
 use mathlib.Core.Path.{◌≡◌, refl, sym, ◌∙◌, ap}
+use mathlib.Core.Bool.{true}
 use mathlib.Core.List.{List, [], ◌++◌, append_assoc}
 use mathlib.Core.Option.{some}
 use native.Mathlib.Omega.{arith}
@@ -16,9 +17,9 @@ use Rattle.table.specs.Table.{zeros, entries_bytes, entries_at, table_length, ta
 use Rattle.table.proofs.Form.{formed}
 use Rattle.table.proofs.Zeros.{length-zeros, zeros-add}
 use Rattle.table.proofs.Encode.{entry-back}
-use Rattle.saved_book.specs.Form.{entry_to, in_turn, memory_start}
+use Rattle.saved_book.specs.Form.{entry_to, in_turn, saved_form, memory_start}
 use Rattle.saved_book.specs.Opened.{opened_memory}
-use Rattle.saved_book.proofs.Forms.{entry-turn, FormIn}
+use Rattle.saved_book.proofs.Forms.{entry-turn, FormIn, form-parts}
 
 -- ---- the entries
 
@@ -48,10 +49,12 @@ module _ (s : List ℕ) where
 
 -- An empty table with room for so many bytes.
 empty-parted : (l : ℕ) → table_head + l ≤ place_size
-    → table_bytes [] ≡ (bytes_of 2 table_head ++ (bytes_of 2 32 ++ (bytes_of 2 0 ++ bytes_of 2 0))) ++ (zeros l ++ zeros (place_size - (table_head + l)))
+    → table_bytes []
+    ≡ (bytes_of 2 table_head ++ (bytes_of 2 32 ++ (bytes_of 2 0 ++ bytes_of 2 0))) ++ (zeros l ++ zeros (place_size - (table_head + l)))
 unfolding table_bytes table_length entries_bytes
 empty-parted l h =
-    let rest : zeros (place_size - table_head) ≡ zeros l ++ zeros (place_size - (table_head + l)) = ap zeros (omega arith) ∙ zeros-add l (place_size - (table_head + l)) in
+    let rest : zeros (place_size - table_head) ≡ zeros l ++ zeros (place_size - (table_head + l)) =
+    ap zeros (omega arith) ∙ zeros-add l (place_size - (table_head + l)) in
     simp append_assoc (rw rest)
 
 -- Over it: the entries' bytes, the length in use, and the count.
@@ -69,12 +72,22 @@ table-written es h =
     let rest : List ℕ = zeros (place_size - (table_head + l)) in
     let head : List ℕ = old ++ (kind ++ (nought ++ nought)) in
     let eight : length head ≡ table_head =
-    omega (arith, length-append old (kind ++ (nought ++ nought)), length-append kind (nought ++ nought), length-append nought nought, length-bytes_of 2 table_head, length-bytes_of 2 32, length-bytes_of 2 0) in
+    omega (
+      arith,
+      length-append old (kind ++ (nought ++ nought)),
+      length-append kind (nought ++ nought),
+      length-append nought nought,
+      length-bytes_of 2 table_head,
+      length-bytes_of 2 32,
+      length-bytes_of 2 0,
+    ) in
     let four : length (new ++ kind) ≡ 4 = omega (arith, length-append new kind, length-bytes_of 2 (table_head + l), length-bytes_of 2 32) in
     let one : sets (table_bytes []) table_head eb ≡ old ++ (kind ++ (nought ++ (nought ++ (eb ++ rest)))) =
     rw (empty-parted l h) (sets-mid head (zeros l) rest eb table_head eight (length-zeros l) ∙ simp append_assoc) in
     let two : sets (old ++ (kind ++ (nought ++ (nought ++ (eb ++ rest))))) 0 new ≡ (new ++ kind) ++ (nought ++ (nought ++ (eb ++ rest))) =
-    sets-mid [] old (kind ++ (nought ++ (nought ++ (eb ++ rest)))) new 0 refl (length-bytes_of 2 table_head ∙ sym (length-bytes_of 2 (table_head + l))) ∙ simp append_assoc in
+    sets-mid [] old (kind ++ (nought ++ (nought ++ (eb ++ rest)))) new 0 refl
+    (length-bytes_of 2 table_head ∙ sym (length-bytes_of 2 (table_head + l)))
+    ∙ simp append_assoc in
     let three : sets ((new ++ kind) ++ (nought ++ (nought ++ (eb ++ rest)))) 4 count ≡ (new ++ kind) ++ (count ++ (nought ++ (eb ++ rest))) =
     sets-mid (new ++ kind) nought (nought ++ (eb ++ rest)) count 4 four (length-bytes_of 2 0 ∙ sym (length-bytes_of 2 (length es))) in
     rw (one, two, three) (simp append_assoc)
@@ -82,6 +95,11 @@ table-written es h =
 -- The table has room for the bytes from the first entry to the end.
 pub memory-short : (s : List ℕ) → FormIn s → table_head + (length s - (memory_start s + 2)) ≤ place_size
 memory-short s f = omega (arith, entries-short s (number_at 2 s (memory_start s)) (memory_start s + 2) (length s) f.entries, f.few)
+
+-- The same at the position of the count, which stands in the bytes.
+pub memory_fits : (s : List ℕ) (at : ℕ) → saved_form s ≡ true → at ≡ memory_start s
+    → (at + 2 ≤ length s) × (table_head + (length s - (at + 2)) ≤ place_size)
+memory_fits s at h e = let f = form-parts s h in (rw e f.begun, rw e (memory-short s f))
 
 -- What is written is the memory table.
 pub memory-written : (s s1 s2 s3 s4 : List ℕ) (at start n : ℕ) → Bytes s → FormIn s
@@ -104,5 +122,6 @@ memory-written s s1 s2 s3 s4 at start n b f ea es en e1 e2 e3 e4 =
     let short : table_length entries ≤ place_size = omega (arith, memory-short s f) in
     let w = rw (long, bytes, many) at (table-written entries short) in
     let to : start ≡ m + 2 = omega arith in
-    let all : take (length s - (m + 2)) (drop (m + 2) s) ≡ drop (m + 2) s = take_all (length s - (m + 2)) (drop (m + 2) s) (omega (arith, length-drop (m + 2) s)) in
+    let all : take (length s - (m + 2)) (drop (m + 2) s) ≡ drop (m + 2) s =
+    take_all (length s - (m + 2)) (drop (m + 2) s) (omega (arith, length-drop (m + 2) s)) in
     rw (e4, e3, e2, e1, en, to, ea, all) w

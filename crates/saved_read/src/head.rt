@@ -14,10 +14,11 @@ fn word_at(s: &[u8], at: usize) -> u64
     requires { at + 2 ≤ length s.now }
     ensures { result ≡ number_at 2 s.now at }
 {
-    number::get_u16(s, at) as u64
+    u64::from(number::get_u16(s, at))
 }
 
 // Threshold, cursor, flag and key of the two marks, and the lengths of the four lists; `at` is where these begin in the bytes.
+#[tactic(auto, using(crate::proofs::Levels::head_long))]
 pub fn read_head(s: &[u8], at: usize) -> HeadWords
     requires { (saved_form s.now ≡ true) × (at ≡ lists_start s.now) }
     ensures { result ≡ opened_head s.now }

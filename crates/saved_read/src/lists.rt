@@ -1,6 +1,5 @@
 // The four lists, each in its part of the lent lists: its items, then zeros.
 ghost use Rattle.std.specs.Prelude.{◌≡◌, true, ◌++◌, ◌+◌, ◌*◌, ◌-◌, ◌≤◌, length};
-ghost use Rattle.std.proofs.lemmas.List.Edits.{sets};
 ghost use Rattle.coding.specs.Number.{number_at};
 ghost use Rattle.table.specs.Table.{zeros};
 ghost use Rattle.ldc.specs.Layout.{level_count};
@@ -11,27 +10,13 @@ use book::limits::LEVELS;
 use coding::number;
 use saved_form::layout;
 
-// Writes so many items from the front of a part on; `at` is where the first of them stands in the bytes.
-fn put_items(s: &[u8], at: usize, n: usize, part: &mut [u16])
-    requires { (at + 2 * n ≤ length s.now) × (n ≤ length part.old) }
-    ensures { part.new ≡ sets part.old 0 (items_saved n s.now at) }
+// Reads the items of a part, the first of which stands in the bytes at a position.
+fn read_items(s: &[u8], at: usize, part: &mut [u16])
+    requires { at + 2 * length part.old ≤ length s.now }
+    ensures { part.new ≡ items_saved (length part.old) s.now at }
 {
-    let mut i = 0;
-    while i < n {
-        part[i] = number::get_u16(s, at + layout::NUMBER * i);
-        i += 1;
-    }
-}
-
-// Makes the items from a number on zero.
-fn zero_from(part: &mut [u16], from: usize)
-    requires { from ≤ length part.old }
-    ensures { part.new ≡ sets part.old from (zeros (length part.old - from)) }
-{
-    let mut i = from;
-    while i < part.len() {
-        part[i] = 0;
-        i += 1;
+    for (i, item) in part.iter_mut().enumerate() {
+        *item = number::get_u16(s, at + layout::NUMBER * i);
     }
 }
 
@@ -42,9 +27,9 @@ fn read_list(s: &[u8], at: usize, part: &mut [u16])
         ≡ items_saved (number_at 2 s.now at) s.now (at + 2)
         ++ zeros (length part.old - number_at 2 s.now at) }
 {
-    let n = number::get_u16(s, at) as usize;
-    put_items(s, at + layout::NUMBER, n, part);
-    zero_from(part, n);
+    let n = usize::from(number::get_u16(s, at));
+    read_items(s, at + layout::NUMBER, &mut part[..n]);
+    part[n..].fill(0);
 }
 
 // Where the list at a position ends.
@@ -52,7 +37,7 @@ pub fn list_end(s: &[u8], at: usize) -> usize
     requires { list_end s.now at ≤ length s.now }
     ensures { result ≡ list_end s.now at }
 {
-    at + layout::NUMBER + layout::NUMBER * number::get_u16(s, at) as usize
+    at + layout::NUMBER + layout::NUMBER * usize::from(number::get_u16(s, at))
 }
 
 // The four lists, over so many places each; `at` is where they begin in the bytes.
@@ -63,11 +48,9 @@ pub fn read_lists(s: &[u8], at: usize, places: usize, lists: &mut [u16])
     ensures { lists.new ≡ opened_lists places s.now }
 {
     let mut from = at;
-    let mut level = 0;
-    while level < LEVELS {
+    for level in 0..LEVELS {
         let start = level * places;
         read_list(s, from, &mut lists[start..start + places]);
         from = list_end(s, from);
-        level += 1;
     }
 }

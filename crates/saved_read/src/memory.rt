@@ -11,6 +11,7 @@ use table::limits::PlaceBytes;
 use table_builder::place;
 
 // Writes the table into a place; `at` is where the entries with their count begin in the bytes.
+#[tactic(auto, using(crate::proofs::Table::memory_fits))]
 fn fill_table(s: &[u8], at: usize, table: &mut [u8])
     requires { (saved_form s.now ≡ true) × ((at ≡ memory_start s.now) × (length table.old ≡ place_size)) }
     ensures { table.new ≡ opened_memory s.now }

@@ -19,10 +19,10 @@ fn put_link(s: &[u8], at: usize, row: &mut Row, i: usize)
     ensures { row.new ≡ sets row.old (link_start i) (link_words (link_saved s.now at ∷ [])) }
 {
     let to = row::link_start(i);
-    row[to] = number::get_u16(s, at) as u64;
+    row[to] = u64::from(number::get_u16(s, at));
     row[to + row::LOW] = number::get_u64(s, at + layout::LOW);
     row[to + row::HIGH] = number::get_u64(s, at + layout::HIGH);
-    row[to + row::NUMBER] = number::get_u16(s, at + layout::LINK_NUMBER) as u64;
+    row[to + row::NUMBER] = u64::from(number::get_u16(s, at + layout::LINK_NUMBER));
 }
 
 // How many links the card at a position has.
@@ -30,7 +30,7 @@ fn count_at(s: &[u8], at: usize) -> usize
     requires { card_end s.now at ≤ length s.now }
     ensures { result ≡ count_saved s.now at }
 {
-    number::get_u16(s, at + layout::LINK_COUNT) as usize
+    usize::from(number::get_u16(s, at + layout::LINK_COUNT))
 }
 
 // The row of the card at a position.
@@ -40,28 +40,23 @@ fn read_row(s: &[u8], at: usize) -> Row
 {
     let n = count_at(s, at);
     let mut row = [0u64; row::ROW_WORDS];
-    row[row::STATE] = number::get_u16(s, at) as u64;
+    row[row::STATE] = u64::from(number::get_u16(s, at));
     row[row::COUNT] = n as u64;
-    let mut i = 0;
-    while i < n {
+    for i in 0..n {
         put_link(s, at + layout::CARD_HEAD + layout::LINK * i, &mut row, i);
-        i += 1;
     }
     row
 }
 
-// Writes the rows of the cards saved.
+// The rows of the cards saved, which are as many.
 fn put_rows(s: &[u8], rows: &mut [Row])
-    requires { (saved_form s.now ≡ true) × (places_saved s.now ≤ length rows.old) }
-    ensures { rows.new ≡ sets rows.old 0 (rows_saved (places_saved s.now) s.now cards_start) }
+    requires { (saved_form s.now ≡ true) × (places_saved s.now ≡ length rows.old) }
+    ensures { rows.new ≡ rows_saved (places_saved s.now) s.now cards_start }
 {
-    let n = number::get_u16(s, layout::PLACES) as usize;
     let mut at = layout::CARDS;
-    let mut i = 0;
-    while i < n {
-        rows[i] = read_row(s, at);
+    for row in rows.iter_mut() {
+        *row = read_row(s, at);
         at += layout::CARD_HEAD + layout::LINK * count_at(s, at);
-        i += 1;
     }
 }
 
@@ -70,18 +65,18 @@ fn free_from(rows: &mut [Row], from: usize)
     requires { from ≤ length rows.old }
     ensures { rows.new ≡ sets rows.old from (replicate (length rows.old - from) (row_with free (zeros summary_words))) }
 {
-    let mut i = from;
-    while i < rows.len() {
+    for i in from..rows.len() {
         row::free(rows, i);
-        i += 1;
     }
 }
 
 // The rows of so many places: those saved, and free ones for the added places.
+#[tactic(auto, using(crate::proofs::Levels::head_long))]
 pub fn read_rows(s: &[u8], rows: &mut [Row])
     requires { (saved_form s.now ≡ true) × (places_saved s.now ≤ length rows.old) }
     ensures { rows.new ≡ opened_rows (length rows.old) s.now }
 {
-    put_rows(s, rows);
-    free_from(rows, number::get_u16(s, layout::PLACES) as usize);
+    let n = usize::from(number::get_u16(s, layout::PLACES));
+    put_rows(s, &mut rows[..n]);
+    free_from(rows, n);
 }

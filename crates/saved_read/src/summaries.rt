@@ -22,7 +22,7 @@ fn sum_place(row: &Row, bytes: &[u8]) -> Words
     if row::is_free(row) {
         return NO_TABLE;
     }
-    if !valid::judge(bytes).good {
+    if valid::judge(bytes).is_none() {
         return NO_TABLE;
     }
     filter::of_table(bytes)
@@ -34,10 +34,8 @@ pub fn sum_rows(area: &[u8], rows: &mut [Row])
     ensures { rows.new
         ≡ summed_rows rows.old (chop (places_in area.now) area.now) }
 {
-    let mut p = 0;
-    while p < rows.len() {
+    for p in 0..rows.len() {
         let words = sum_place(&rows[p], place::bytes_of(area, p));
         row::set_summary(rows, p, words);
-        p += 1;
     }
 }

@@ -1,11 +1,12 @@
 -- What the code writes of each piece is what the definition says of it: marks and rows by their words, the memory entries as they stand in the
--- table. And one turn of the loops: what is left begins with the bytes of the next link or card.
-use Prim.Native.Nat.{ℕ, ◌+◌, ◌*◌, ◌-◌, ◌≤◌, ◌<◌}
+-- table. And one turn of the loops: what is left begins with the bytes of the next link, card or list.
+use Prim.Native.Nat.{ℕ, zero, suc, ◌+◌, ◌*◌, ◌-◌, ◌≤◌, ◌<◌}
 use mathlib.Core.Path.{◌≡◌, refl, sym, ◌∙◌, ap}
 use mathlib.Core.Bool.{true}
 use mathlib.Core.Option.{Option, some, none}
 use mathlib.Core.List.{List, [], ◌++◌, map, append-nil, append_assoc}
 use native.Mathlib.Omega.{arith}
+use Rattle.std.proofs.Common.{Fits, w8}
 use native.Mathlib.Numerals.{add-one}
 use lib.ListN.{length, get_or, take, drop, length-append, drop_of_length-le}
 use lib.Seq.{drop-cons, drop_at, take-append_seam}
@@ -20,14 +21,14 @@ use Rattle.table.proofs.Position.{good-parts, good-end}
 use Rattle.table.proofs.Encode.{encode, length_back}
 use Rattle.ldc.specs.Lists.{flat}
 use Rattle.ldc.specs.Lent.{row_good}
-use Rattle.ldc.specs.Layout.{mark_of, mark_words, mark_good, marks_of, marks_good, state_of, card_of, link_at}
+use Rattle.ldc.specs.Layout.{level_count, mark_of, mark_words, mark_good, marks_of, marks_good, state_of, card_of, link_at, items_in}
 use Rattle.ldc.proofs.Lent.Parts.{words-of-mark, state-of}
 use Rattle.book.specs.Row.{links_in}
 use Rattle.book.proofs.Rows.{links-cons}
 use Rattle.wire.specs.Reply.{numbers}
-use Rattle.saved_book.specs.Saved.{number_bytes, key_bytes, mark_bytes, link_bytes, card_bytes, memory_bytes}
+use Rattle.saved_book.specs.Saved.{number_bytes, key_bytes, mark_bytes, link_bytes, card_bytes, list_bytes, memory_bytes}
 use Rattle.saved_book.specs.Form.{card_head, link_width}
-use Rattle.saved_write.specs.Book.{cards_bytes}
+use Rattle.saved_write.specs.Book.{levels_in, cards_bytes}
 use Rattle.saved_write.proofs.Widths.{length-card}
 
 -- ---- marks
@@ -42,7 +43,8 @@ mark-put : (flag key : ℕ) → mark_good flag key ≡ true → number_bytes fla
 mark-put flag key h = rw (words-of-mark flag key h) at (mark-bytes (mark_of flag key))
 
 pub marks-put : (head : List ℕ) → marks_good head ≡ true
-    → number_bytes (get_or head 2 0) ++ key_bytes (get_or head 3 0) ++ (number_bytes (get_or head 4 0) ++ key_bytes (get_or head 5 0)) ≡ flat (map mark_bytes (marks_of head))
+    → number_bytes (get_or head 2 0) ++ key_bytes (get_or head 3 0) ++ (number_bytes (get_or head 4 0) ++ key_bytes (get_or head 5 0))
+    ≡ flat (map mark_bytes (marks_of head))
 marks-put head h =
     let good = and_parts (mark_good (get_or head 2 0) (get_or head 3 0)) (mark_good (get_or head 4 0) (get_or head 5 0)) h in
     rw (mark-put (get_or head 2 0) (get_or head 3 0) good.0, mark-put (get_or head 4 0) (get_or head 5 0) good.1, append-nil)
@@ -82,6 +84,24 @@ module _ (cards : List (List ℕ)) where
   pub cards-none : (i : ℕ) → length cards ≤ i → cards_bytes (drop i cards) ≡ []
   cards-none i h = rw (drop_of_length-le cards {i = i} h)
 
+-- ---- lists
+
+module _ (places : ℕ) (lists head : List ℕ) where
+  level-at : (n : ℕ) → n < level_count → get_or (levels_in places lists head) n [] ≡ items_in places lists head n
+  level-at zero h = refl
+  level-at (suc zero) h = refl
+  level-at (suc (suc zero)) h = refl
+  level-at (suc (suc (suc zero))) h = refl
+  level-at (suc (suc (suc (suc n)))) h = absurd (omega arith)
+
+  pub levels-turn : (n : ℕ) → n < level_count
+      → flat (map list_bytes (drop n (levels_in places lists head)))
+      ≡ list_bytes (items_in places lists head n) ++ flat (map list_bytes (drop (n + 1) (levels_in places lists head)))
+  levels-turn n h = rw (add-one n, drop-cons (levels_in places lists head) n [] h, level-at n h)
+
+  pub levels-none : (n : ℕ) → level_count ≤ n → flat (map list_bytes (drop n (levels_in places lists head))) ≡ []
+  levels-none n h = rw (drop_of_length-le (levels_in places lists head) {i = n} h)
+
 -- ---- items and memory entries
 
 pub numbers-put : (ps : List ℕ) → numbers ps ≡ flat (map number_bytes ps)
@@ -95,9 +115,13 @@ table-entries es =
     let head : List ℕ = bytes_of 2 (table_length es) ++ bytes_of 2 32 ++ bytes_of 2 (length es) ++ bytes_of 2 0 in
     let rest : List ℕ = zeros (place_size - table_length es) in
     let eight : length head ≡ table_head = simp (length-append, length-bytes_of) in
-    rw (append_assoc head (entries_bytes es) rest, drop_at head (entries_bytes es ++ rest) table_head eight) (take-append_seam (entries_bytes es) rest)
+    rw (append_assoc head (entries_bytes es) rest, drop_at head (entries_bytes es ++ rest) table_head eight)
+    (take-append_seam (entries_bytes es) rest)
 
-module _ (s : List ℕ) (bytes : Bytes s) (place : MemoryPlace s) where
+module _ (s : List ℕ) (fits : (i : ℕ) → Fits w8 (get_or s i 0)) (place : MemoryPlace s) where
+  bytes : Bytes s
+  bytes = λ i. omega (arith, fits i)
+
   -- The bytes of the entries end at the length in use.
   pub entries-long : table_head + length (entries_bytes (entries s)) ≡ length_at s 0
   unfolding table_length is_memory

@@ -27,12 +27,9 @@ fn put_links(out: &mut [u8], at: usize, row: &Row) -> usize
     requires { at + length (flat (map link_bytes (links_in row.now))) ≤ length out.old }
     ensures { Puts out at (flat (map link_bytes (links_in row.now))) result }
 {
-    let count = row::links_held(row);
     let mut to = at;
-    let mut i = 0;
-    while i < count {
+    for i in 0..row::links_held(row) {
         to = put_link(out, to, row::link_at(row, i));
-        i += 1;
     }
     to
 }
@@ -51,10 +48,8 @@ pub fn put_cards(out: &mut [u8], at: usize, cards: &[Row]) -> usize
     ensures { Puts out at (cards_bytes cards.now) result }
 {
     let mut to = at;
-    let mut i = 0;
-    while i < cards.len() {
-        to = put_card(out, to, &cards[i]);
-        i += 1;
+    for row in cards {
+        to = put_card(out, to, row);
     }
     to
 }

@@ -32,7 +32,7 @@ pub fn put_head(out: &mut [u8], at: usize, places: usize, head: &HeadWords) -> u
     requires { (marks_good head.now ≡ true) × (at + head_width ≤ length out.old) }
     ensures { Puts out at (head_bytes places head.now) result }
 {
-    let kind_end = fields::put_number(out, at, layout::SAVED_KIND as u64);
+    let kind_end = fields::put_number(out, at, u64::from(layout::SAVED_KIND));
     let places_end = fields::put_number(out, kind_end, places as u64);
     let threshold_end = fields::put_number(out, places_end, head[head::THRESHOLD]);
     let cursor_end = fields::put_number(out, threshold_end, head[head::CURSOR]);

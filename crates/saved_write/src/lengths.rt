@@ -20,10 +20,8 @@ pub fn cards_length(cards: &[Row]) -> usize
         × (result ≤ (card_head + link_width * link_limit) * most_places) }
 {
     let mut n = 0;
-    let mut i = 0;
-    while i < cards.len() {
-        n += layout::CARD_HEAD + layout::LINK * row::links_held(&cards[i]);
-        i += 1;
+    for row in cards {
+        n += layout::CARD_HEAD + layout::LINK * row::links_held(row);
     }
     n
 }
@@ -48,5 +46,5 @@ pub fn memory_length(memory: &[u8]) -> usize
     requires { MemoryPlace memory.now }
     ensures { (result ≡ length (memory_bytes (entries memory.now))) × (result ≤ place_size) }
 {
-    layout::NUMBER + (entry::length_at(memory, 0) as usize - limits::TABLE_HEAD)
+    layout::NUMBER + (usize::from(entry::length_at(memory, 0)) - limits::TABLE_HEAD)
 }

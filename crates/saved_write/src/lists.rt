@@ -7,6 +7,7 @@ ghost use Rattle.saved_write.specs.Put.{Puts};
 
 use super::fields;
 use book::head::HeadWords;
+use book::limits::LEVELS;
 use book::list;
 use saved_form::layout;
 use wire::reply;
@@ -44,8 +45,9 @@ pub fn put_lists(out: &mut [u8], at: usize, lists: &[u16], places: usize, head: 
         × (at + length (lists_bytes places lists.now head.now) ≤ length out.old)) }
     ensures { Puts out at (lists_bytes places lists.now head.now) result }
 {
-    let end0 = put_list(out, at, lists, places, head, 0);
-    let end1 = put_list(out, end0, lists, places, head, 1);
-    let end2 = put_list(out, end1, lists, places, head, 2);
-    put_list(out, end2, lists, places, head, 3)
+    let mut to = at;
+    for n in 0..LEVELS {
+        to = put_list(out, to, lists, places, head, n);
+    }
+    to
 }

@@ -13,7 +13,7 @@ pub fn put_memory(out: &mut [u8], at: usize, memory: &[u8]) -> usize
     ensures { Puts out at (memory_bytes (entries memory.now)) result }
 {
     let start = fields::put_number(out, at, search::count(memory) as u64);
-    let end = entry::length_at(memory, 0) as usize;
+    let end = usize::from(entry::length_at(memory, 0));
     place::copy(out, start, &memory[limits::TABLE_HEAD..end]);
     start + (end - limits::TABLE_HEAD)
 }

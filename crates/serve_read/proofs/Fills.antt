@@ -1,11 +1,11 @@
--- A run of values written one behind the other: one more, and the end of the run.
-use Prim.Native.Nat.{ℕ, ◌+◌, ◌≤◌, ◌<◌}
+-- A run of values written one behind the other: none, and one more.
+use Prim.Native.Nat.{ℕ, ◌+◌, ◌<◌}
 use mathlib.Core.Path.{◌≡◌, refl, sym, ◌∙◌}
 use mathlib.Core.List.{List, [], ◌∷◌, ◌++◌}
 use native.Mathlib.Omega.{arith}
 use native.Mathlib.Numerals.{add-one}
 use lib.ListN.{length, take, get_or, length-append}
-use lib.Seq.{sets, take_all, take-suc}
+use lib.Seq.{sets, take-suc}
 use Rattle.coding.proofs.Sets.{sets-append}
 use Rattle.table.specs.Entry.{Entry, entry_bytes}
 use Rattle.table.specs.Table.{entries_bytes}
@@ -34,6 +34,3 @@ module _ (all : List Entry) (start : ℕ) (before : List ℕ) where
         written = w ∙ rw (f.written, f.ends) (bytes-more before start (take i all) e);
         ends = omega (arith, f.ends, length_more (take i all) e);
       })
-
-  pub fills-all : (i : ℕ) (answer : List ℕ) (end : ℕ) → length all ≤ i → Fills (take i all) start before answer end → Fills all start before answer end
-  fills-all i answer end h f = rw (take_all i all h) at f

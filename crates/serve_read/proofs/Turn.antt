@@ -1,11 +1,12 @@
 -- One turn of the loops that count: what is left of a definition, after a row.
 use Prim.Native.Nat.{ℕ, ◌+◌, ◌≤◌, ◌<◌}
-use mathlib.Core.Path.{◌≡◌}
+use mathlib.Core.Path.{◌≡◌, refl}
 use mathlib.Core.Bool.{Bool, true, false, cond}
 use mathlib.Core.List.{List, []}
 use native.Mathlib.Omega.{arith}
 use native.Mathlib.Numerals.{add-one}
 use lib.ListN.{length, get_or, drop, drop_of_length-le}
+use Rattle.std.specs.Int.{from_bool}
 use lib.Seq.{drop-cons}
 use Rattle.table.proofs.Tests.{cases}
 use Rattle.ldc.specs.Lists.{how_many}
@@ -38,7 +39,11 @@ module _ (rows : List (List ℕ)) (i : ℕ) where
   unfolding free_in frozen_in links_counted
   tally-end h = let e : drop i rows ≡ [] = drop_of_length-le rows {i = i} h in (rw e, rw e, rw e)
 
--- One or none is at most one.
+-- A test as a number: one if so, and else nought, and so at most one.
+pub one-if : (b : Bool) → from_bool b ≡ cond b 1 0
+one-if true = refl
+one-if false = refl
+
 pub one-few : (b : Bool) → cond b 1 0 ≤ 1
 one-few true = omega arith
 one-few false = omega arith

@@ -52,9 +52,9 @@ pub fn look_up_reply(
 {
     let spot = read_get::look_up(area, cards, lists, head, memory, key);
     match spot {
-        Spot::Memory(from) => value_reply(memory, from, answer, at),
-        Spot::Place(p, from) => value_reply(bytes_of(area, p), from, answer, at),
-        Spot::Nothing => {
+        Some(Spot::Memory(from)) => value_reply(memory, from, answer, at),
+        Some(Spot::Place(p, from)) => value_reply(bytes_of(area, p), from, answer, at),
+        None => {
             reply::write_head(answer, at, kinds::LOOK_UP, results::NO_VALUE, 0);
             reply::REPLY_HEAD
         }

@@ -94,8 +94,15 @@ pub fn probe_reply(
     let bits = told.bits as u32;
     let spot = told.spot;
     match spot {
-        Spot::Memory(from) => decided_reply(memory, from, tables, bits, answer, at),
-        Spot::Place(p, from) => decided_reply(bytes_of(area, p), from, tables, bits, answer, at),
-        Spot::Nothing => missed_reply(tables, bits, answer, at),
+        Some(Spot::Memory(from)) => decided_reply(memory, from, tables, bits, answer, at),
+        Some(Spot::Place(p, from)) => decided_reply(
+            bytes_of(area, p),
+            from,
+            tables,
+            bits,
+            answer,
+            at,
+        ),
+        None => missed_reply(tables, bits, answer, at),
     }
 }

@@ -1,5 +1,5 @@
 // Report: eight counts of the book and the memory table.
-ghost use Rattle.std.specs.Prelude.{◌≡◌, cond, [], ℕ, ◌≤◌, ◌<◌, length, get_or};
+ghost use Rattle.std.specs.Prelude.{◌≡◌, [], ℕ, ◌≤◌, ◌<◌, length, get_or};
 ghost use Rattle.ldc.specs.Layout.{most_places, link_limit, link_count};
 ghost use Rattle.book.specs.Head.{head_words};
 ghost use Rattle.wire.specs.Reply.{Room, Wrote};
@@ -22,13 +22,6 @@ pub struct Tally {
     pub links: usize,
 }
 
-// One if so, and else nought.
-fn one_if(b: bool) -> usize
-    ensures { result ≡ cond b 1 0 }
-{
-    if b { 1 } else { 0 }
-}
-
 // Counts free and frozen places, and links.
 fn count_cards(cards: &[Row]) -> Tally
     requires { (length cards.now ≤ most_places)
@@ -36,15 +29,13 @@ fn count_cards(cards: &[Row]) -> Tally
     ensures { (result.free ≡ free_in cards.now)
         × ((result.frozen ≡ frozen_in cards.now) × (result.links ≡ links_counted cards.now)) }
 {
-    let mut i = 0;
     let mut free = 0;
     let mut frozen = 0;
     let mut links = 0;
-    while i < cards.len() {
-        free += one_if(row::is_free(&cards[i]));
-        frozen += one_if(row::is_frozen(&cards[i]));
-        links += row::link_count(&cards[i]) as usize;
-        i += 1;
+    for row in cards {
+        free += usize::from(row::is_free(row));
+        frozen += usize::from(row::is_frozen(row));
+        links += row::link_count(row) as usize;
     }
     Tally {
         free,

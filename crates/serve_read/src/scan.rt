@@ -1,5 +1,5 @@
 // Scan: the first 16 or fewer values of a range, keys rising, and whether a further one exists.
-ghost use Rattle.std.specs.Prelude.{◌≡◌, cond, ◌++◌, map, ◌+◌, ◌*◌, ◌≤◌, min, ltb, length, take};
+ghost use Rattle.std.specs.Prelude.{◌++◌, map, ◌+◌, ◌*◌, ◌≤◌, length, take};
 ghost use Rattle.table.specs.Entry.{entry_at};
 ghost use Rattle.table.specs.Limits.{entry_limit};
 ghost use Rattle.ldc.specs.Lent.{store_of};
@@ -27,24 +27,6 @@ const SCAN_ROOM: usize = SCAN_LIMIT + 1;
 // The bytes of a scan's reply before its entries: the reply's head, count and more.
 const SCAN_HEAD: usize = reply::REPLY_HEAD + 4;
 
-// How many of the values that were found a scan gives.
-fn given_of(found: usize) -> usize
-    ensures { result ≡ min found scan_limit }
-{
-    if found < SCAN_LIMIT {
-        found
-    } else {
-        SCAN_LIMIT
-    }
-}
-
-// Is there one more? 1 if so, 0 if not.
-fn tell_more(found: usize) -> u16
-    ensures { result ≡ cond (ltb scan_limit found) 1 0 }
-{
-    if SCAN_LIMIT < found { 1 } else { 0 }
-}
-
 // Copies the entries at the first n spots into the answer from `start` on; where they end.
 fn copy_values(
     area: &[u8],
@@ -60,12 +42,9 @@ fn copy_values(
     ensures { Fills (map (entry_at (area.now ++ memory.now)) (take n spots.now))
         start answer.old answer.new result }
 {
-    let mut i = 0;
     let mut end = start;
-    while i < n {
-        let at = spots[i] as usize;
-        end += spot::copy_entry(area, memory, at, answer, end);
-        i += 1;
+    for &at in &spots[..n] {
+        end += spot::copy_entry(area, memory, at as usize, answer, end);
     }
     end
 }
@@ -83,7 +62,8 @@ pub fn scan_reply(
     at: usize,
 ) -> usize
     requires { Readable (given area.now cards.now lists.now head memory.now) × Room answer.old at }
-    ensures { Wrote answer at (replied scan_kind (serve_scan (store_of (held area.now cards.now lists.now head memory.now)) low.value high.value)) result }
+    ensures { Wrote answer at
+        (replied scan_kind (serve_scan (store_of (held area.now cards.now lists.now head memory.now)) low.value high.value)) result }
 {
     if high.value < low.value {
         reply::write_head(answer, at, kinds::SCAN, results::BAD_RANGE, 0);
@@ -102,9 +82,9 @@ pub fn scan_reply(
         &mut keys[..],
         &mut spots[..],
     );
-    let count = given_of(found);
+    let count = found.min(SCAN_LIMIT);
     let end = copy_values(area, memory, &spots[..], count, answer, at + SCAN_HEAD);
-    let numbers = [count as u16, tell_more(found)];
+    let numbers = [count as u16, u16::from(SCAN_LIMIT < found)];
     reply::put_numbers(answer, at + reply::REPLY_HEAD, &numbers);
     reply::write_head(
         answer,

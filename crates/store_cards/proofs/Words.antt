@@ -34,7 +34,8 @@ abbrev pub mixed : {X : Type 0} (i : ℕ) → List X → List X → List X
 mixed i new old = take i new ++ drop i old
 
 -- One more of the first is written.
-pub mixed-more : {X : Type 0} (d : X) (new old : List X) (i : ℕ) → i < length new → i < length old → set (mixed i new old) i (get_or new i d) ≡ mixed (suc i) new old
+pub mixed-more : {X : Type 0} (d : X) (new old : List X) (i : ℕ) → i < length new → i < length old
+    → set (mixed i new old) i (get_or new i d) ≡ mixed (suc i) new old
 mixed-more d [] old i l k = absurd (omega (arith, l))
 mixed-more d (x ∷ new) [] i l k = absurd (omega (arith, k))
 mixed-more d (x ∷ new) (y ∷ old) zero l k = refl

@@ -42,17 +42,8 @@ pub fn change_card(cards: &mut [Card], p: usize, card: Card)
 pub fn words_of(card: Card) -> Row
     ensures { result ≡ words_of card }
 {
-    let links = card.links;
-    let l0 = links[0];
-    let l1 = links[1];
-    let l2 = links[2];
-    let l3 = links[3];
-    let l4 = links[4];
-    let l5 = links[5];
-    let l6 = links[6];
-    let l7 = links[7];
-    let summary = card.summary;
-    let words = filter::words_of(&summary);
+    let [l0, l1, l2, l3, l4, l5, l6, l7] = card.links;
+    let [s0, s1, s2, s3] = filter::words_of(&card.summary);
     [
         card.state,
         card.count,
@@ -88,10 +79,10 @@ pub fn words_of(card: Card) -> Row
         l7.low.value,
         l7.high.value,
         l7.number,
-        words[0],
-        words[1],
-        words[2],
-        words[3],
+        s0,
+        s1,
+        s2,
+        s3,
     ]
 }
 
@@ -143,11 +134,8 @@ pub fn load(cards: &[Card], rows: &mut [Row])
     requires { length rows.old ≡ length cards.now }
     ensures { rows.new ≡ rows_of cards.now }
 {
-    let mut i = 0;
-    while i < cards.len() {
-        let card = read_card(cards, i);
-        put_row(rows, i, card);
-        i += 1;
+    for p in 0..cards.len() {
+        put_row(rows, p, read_card(cards, p));
     }
 }
 
@@ -156,10 +144,7 @@ pub fn unload(cards: &mut [Card], rows: &[Row])
     requires { length rows.now ≡ length cards.old }
     ensures { rows_of cards.new ≡ rows.now }
 {
-    let mut i = 0;
-    while i < rows.len() {
-        let card = card_at(rows, i);
-        change_card(cards, i, card);
-        i += 1;
+    for p in 0..rows.len() {
+        change_card(cards, p, card_at(rows, p));
     }
 }

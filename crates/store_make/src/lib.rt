@@ -1,8 +1,7 @@
 // Making a store in lent memory: refused with nothing changed, or all places free and all lists empty.
 #![tactic(auto)]
 
-ghost use Rattle.std.specs.Prelude.{◌≡◌, length};
-ghost use Rattle.table.specs.Table.{zeros};
+ghost use Rattle.std.specs.Prelude.{◌≡◌};
 ghost use Rattle.ldc.specs.Run.{make};
 ghost use Rattle.book.specs.Made.{made, all_free};
 ghost use Rattle.book.specs.Pieces.{lent, after, before};
@@ -19,21 +18,8 @@ use wire::results;
 fn free_all(cards: &mut [Row])
     ensures { cards.new ≡ all_free cards.old }
 {
-    let mut i = 0;
-    while i < cards.len() {
-        row::free(cards, i);
-        i += 1;
-    }
-}
-
-// Makes all list items zero.
-fn empty_lists(lists: &mut [u16])
-    ensures { lists.new ≡ zeros (length lists.old) }
-{
-    let mut i = 0;
-    while i < lists.len() {
-        lists[i] = 0;
-        i += 1;
+    for p in 0..cards.len() {
+        row::free(cards, p);
     }
 }
 
@@ -56,8 +42,8 @@ pub fn make(
         return results::BAD_THRESHOLD;
     }
     free_all(cards);
-    empty_lists(lists);
+    lists.fill(0);
     *head = [threshold, 0, 0, 0, 0, 0, 0, 0, 0, 0];
-    place::clear(&mut memory[..]);
+    place::clear(memory);
     results::ACCEPTED
 }

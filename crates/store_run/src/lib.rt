@@ -3,10 +3,8 @@
 
 ghost use Rattle.std.specs.Prelude.{◌≡◌, length};
 ghost use Rattle.ldc.specs.Run.{run, letter_of};
-ghost use Rattle.ldc.specs.Layout.{row_size};
 ghost use Rattle.ldc.specs.Lent.{Lent};
 ghost use Rattle.book.specs.Pieces.{after, before};
-ghost use Rattle.book.specs.Rows.{Wide};
 ghost use Rattle.serve_list.specs.Ran.{ran};
 ghost use Rattle.store_run.specs.Early.{early_number};
 
@@ -23,24 +21,6 @@ pub struct Ran {
     pub letter: u64,
     pub served: usize,
     pub written: usize,
-}
-
-// A row has as many words as its type says.
-fn row_wide(row: &Row)
-    ensures { length row.now ≡ row_size }
-{
-    let _words = &row[..];
-}
-
-// The same of all rows: said for the proof, with nothing left to do at run time.
-fn rows_wide(cards: &[Row])
-    ensures { Wide cards.now }
-{
-    let mut p = 0;
-    while p < cards.len() {
-        row_wide(&cards[p]);
-        p += 1;
-    }
 }
 
 // The number by which a run is refused before the store is looked at: 1, 3 or 4, in this order; 0 where the store is next. Of area, cards, lists
@@ -96,7 +76,6 @@ pub fn run(
     if checked.number != results::ACCEPTED {
         return refused(results::UNSOUND, checked.letter);
     }
-    rows_wide(cards);
     let done = serve_list::list::serve_all(
         area,
         cards,

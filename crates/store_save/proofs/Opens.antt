@@ -1,15 +1,17 @@
 -- Opening by its ways out: 1, 21, 22, then what the check says of the store as opened, which has the sizes of what was lent. The definition's cases
 -- compute once each test has its answer.
-use Prim.Native.Nat.{ℕ, ◌≤◌, ◌<◌}
+use Prim.Native.Nat.{ℕ, ◌*◌, ◌≤◌, ◌<◌}
 use mathlib.Core.Path.{◌≡◌, refl, sym, ◌∙◌, ap}
 use mathlib.Core.Bool.{Bool, true, false, ◌&&◌, ◌||◌, true≢false}
 use mathlib.Core.List.{List, ◌++◌}
 use native.Mathlib.Omega.{arith}
 use borrow.Author.Tests.{lt-ltb, le-ltb, eq-eqb, ne_eqb, eqb-true}
 use lib.Dec.{eqb, ltb}
-use lib.ListN.{length, take, length-append}
+use lib.ListN.{length, take, length-append, length-take}
 use lib.Seq.{take-append_seam}
+use Rattle.table.proofs.Tests.{and_parts}
 use Rattle.ldc.specs.Lists.{is_empty}
+use Rattle.ldc.specs.Layout.{level_count, most_places}
 use Rattle.ldc.specs.Lent.{Lent, places_in, chop, sizes_good, broken}
 use Rattle.ldc.specs.Run.{accepted, wrong_sizes, unsound, check, letter_of}
 use Rattle.ldc.proofs.Basics.Cases.{cases}
@@ -22,8 +24,7 @@ use Rattle.book.specs.Rows.{Sized}
 use Rattle.check_store.specs.Answer.{Answers}
 use Rattle.ldc.proofs.Lent.Shows.{sizes}
 use Rattle.saved_form.specs.declared.form.Parts.{Parts}
-use Rattle.saved_form.specs.declared.form.Form.{Form}
-use Rattle.saved_form.specs.declared.form.Form.TheVariants.{Book, Broken}
+use Rattle.std.specs.Prelude.{Option, Some, None}
 use Rattle.saved_form.specs.Form.{form_of}
 use Rattle.store_save.specs.Left.{opened_into, cards_left}
 
@@ -57,7 +58,8 @@ module _ (m : Lent) (bytes : List ℕ) where
         unfolding open_book opened_into check
         into-judged number letter e l =
             cases (is_empty (broken (opened_over m.area bytes)))
-            (λ b. let n : number ≡ accepted = e ∙ rw (same, b) in record { number_is = n ∙ rw (z, f, le-ltb _ _ h, b); letter-is = l; left_is = rw n })
+            (λ b. let n : number ≡ accepted = e ∙ rw (same, b) in
+            record { number_is = n ∙ rw (z, f, le-ltb _ _ h, b); letter-is = l; left_is = rw n })
             (λ b. let n : number ≡ unsound = e ∙ rw (same, b) in record { number_is = n ∙ rw (z, f, le-ltb _ _ h, b); letter-is = l; left_is = rw n })
 
 -- Only the lengths matter for the sizes.
@@ -68,21 +70,21 @@ sizes-same m n a c l = rw (a, c, l)
 
 -- ---- what `form_of` found
 
-abbrev is_book : Form → Bool
-is_book (Book x) = true
-is_book Broken = false
+abbrev is_book : Option Parts → Bool
+is_book (Some x) = true
+is_book None = false
 
-abbrev places_of : Form → ℕ
-places_of (Book x) = x.places
-places_of Broken = 0
+abbrev places_of : Option Parts → ℕ
+places_of (Some x) = x.places
+places_of None = 0
 
-abbrev lists_of : Form → ℕ
-lists_of (Book x) = x.lists
-lists_of Broken = 0
+abbrev lists_of : Option Parts → ℕ
+lists_of (Some x) = x.lists
+lists_of None = 0
 
-abbrev memory-of : Form → ℕ
-memory-of (Book x) = x.memory
-memory-of Broken = 0
+abbrev memory-of : Option Parts → ℕ
+memory-of (Some x) = x.memory
+memory-of None = 0
 
 pub record Found (s : List ℕ) (x : Parts) : Type 0 where
   pub form : saved_form s ≡ true
@@ -90,18 +92,17 @@ pub record Found (s : List ℕ) (x : Parts) : Type 0 where
   pub lists : x.lists ≡ lists_start s
   pub memory : x.memory ≡ memory_start s
 
-module _ (s : List ℕ) (r : Form) (e : r ≡ form_of s) where
-  pub found_none : r ≡ Broken → saved_form s ≡ false
+module _ (s : List ℕ) where
+  pub found_none : None ≡ form_of s → saved_form s ≡ false
   unfolding form_of
-  found_none b =
+  found_none q =
       cases (saved_form s)
-      (λ f. let o : is_book (form_of s) ≡ true = rw f in absurd (true≢false (sym o ∙ ap is_book (sym e ∙ b))))
+      (λ f. let q' = rw f at q in absurd (true≢false (sym (ap is_book q'))))
       (λ f. f)
 
-  pub found-parts : (x : Parts) → r ≡ Book x → Found s x
+  pub found-parts : (x : Parts) → Some x ≡ form_of s → Found s x
   unfolding form_of
-  found-parts x b =
-      let q : Book x ≡ form_of s = sym b ∙ e in
+  found-parts x q =
       cases (saved_form s)
       (λ f. let q' = rw f at q in record { form = f; places = ap places_of q'; lists = ap lists_of q'; memory = ap memory-of q' })
       (λ f. let q' = rw f at q in absurd (true≢false (ap is_book q')))
@@ -121,7 +122,8 @@ module _ (m : Lent) (bytes : List ℕ) (z : sizes_good m ≡ true) (x : Parts) (
     room = omega (arith, h, f.places)
 
     pub judged : (read rows : List (List ℕ)) (lists head memory : List ℕ)
-        → read ≡ opened_rows (length m.cards) bytes → rows ≡ summed_rows read (chop (places_in m.area) m.area) → lists ≡ opened_lists (length m.cards) bytes → head ≡ opened_head bytes → memory ≡ opened_memory bytes
+        → read ≡ opened_rows (length m.cards) bytes → rows ≡ summed_rows read (chop (places_in m.area) m.area)
+        → lists ≡ opened_lists (length m.cards) bytes → head ≡ opened_head bytes → memory ≡ opened_memory bytes
         → length rows ≡ length m.cards → length lists ≡ length m.lists
         → (number letter : ℕ) → Answers (lent m.area rows lists head memory) number letter
         → Into number letter m bytes (lent m.area rows lists head memory)
@@ -166,7 +168,8 @@ AnyCards number area bytes working cards lists head memory rows lists' head' mem
     → opening number (lent area (cards_left number rows c) lists' head' memory') ≡ open_with working (lent area c lists head memory) bytes
 
 module _ (area bytes : List ℕ) (working : List (List ℕ)) (cards : ℕ) (lists head memory : List ℕ) where
-  pub beside-sizes : (b : Bool) → ((m : Lent) → length m.area ≡ length area → length m.cards ≡ cards → length m.lists ≡ length lists → b ≡ sizes_good m)
+  pub beside-sizes : (b : Bool)
+      → ((m : Lent) → length m.area ≡ length area → length m.cards ≡ cards → length m.lists ≡ length lists → b ≡ sizes_good m)
       → (eqb (length working) cards && b) ≡ false → AnyCards wrong_sizes area bytes working cards lists head memory working lists head memory
   unfolding open_with open_book cards_left
   beside-sizes b said wrong c n =
@@ -180,7 +183,8 @@ module _ (area bytes : List ℕ) (working : List (List ℕ)) (cards : ℕ) (list
     sizes-of : (c : List (List ℕ)) → length c ≡ cards → sizes_good (lent area c lists head memory) ≡ true
     sizes-of c n = sizes-same (lent area working lists head memory) (lent area c lists head memory) refl (n ∙ sym w) refl ∙ z
 
-    with_open : (c : List (List ℕ)) → length c ≡ cards → open_with working (lent area c lists head memory) bytes ≡ open_book (lent area c lists head memory) bytes
+    with_open : (c : List (List ℕ)) → length c ≡ cards
+        → open_with working (lent area c lists head memory) bytes ≡ open_book (lent area c lists head memory) bytes
     unfolding open_with
     with_open c n = rw (eq-eqb (length working) (length c) (w ∙ sym n))
 
@@ -193,7 +197,8 @@ module _ (area bytes : List ℕ) (working : List (List ℕ)) (cards : ℕ) (list
       number_is : (c : List (List ℕ)) → length c ≡ cards → number ≡ (open_book (lent area c lists head memory) bytes).number
       number_is c n = i ∙ number_same (lent area c lists head memory) (lent area working items words table) bytes refl (inner ∙ sym (sizes-of c n))
 
-      pub beside-refused : (number ≡ accepted → ⊥) → (rows : List (List ℕ)) → AnyCards number area bytes working cards lists head memory rows lists head memory
+      pub beside-refused : (number ≡ accepted → ⊥) → (rows : List (List ℕ))
+          → AnyCards number area bytes working cards lists head memory rows lists head memory
       unfolding cards_left
       beside-refused out rows c n =
           let e = number_is c n in
@@ -211,12 +216,31 @@ module _ (area bytes : List ℕ) (working : List (List ℕ)) (cards : ℕ) (list
           rw (with_open c n) (rw (eq-eqb number accepted in_order) (λ j. record { number = e j; lent = (o' ∙ sym l) j }))
 
 -- The working rows, by the number.
-pub working-is : (number : ℕ) (area bytes : List ℕ) (working : List (List ℕ)) (items words table : List ℕ) (rows : List (List ℕ)) (lists head memory : List ℕ)
-    → lent area rows lists head memory ≡ opened_into number (lent area working items words table) bytes → rows ≡ working_after number working area bytes
+pub working-is : (number : ℕ) (area bytes : List ℕ) (working : List (List ℕ)) (items words table : List ℕ)
+    (rows : List (List ℕ)) (lists head memory : List ℕ)
+    → lent area rows lists head memory ≡ opened_into number (lent area working items words table) bytes
+    → rows ≡ working_after number working area bytes
 unfolding opened_into working_after opened_over
 working-is number area bytes working items words table rows lists head memory o =
     ap (λ (m : Lent). m.cards) o
     ∙ cases (eqb number accepted || eqb number unsound) (λ q. rw q) (λ q. rw q)
+
+-- As many working rows as cards, of good sizes, and the lists fit the working items.
+pub record Ready (m : Lent) (cards : ℕ) (items : List ℕ) : Type 0 where
+  pub as_many : length m.cards ≡ cards
+  pub good : sizes_good m ≡ true
+  pub fits : length m.lists ≤ length items
+  pub front : length (take (length m.lists) items) ≡ length m.lists
+
+pub ready : (m : Lent) (cards : ℕ) (items : List ℕ) (b : Bool)
+    → ((n : Lent) → length n.area ≡ length m.area → length n.cards ≡ cards → length n.lists ≡ length m.lists → b ≡ sizes_good n)
+    → (eqb (length m.cards) cards && b) ≡ true → level_count * most_places ≤ length items → Ready m cards items
+ready m cards items b said both room =
+    let p = and_parts (eqb (length m.cards) cards) b both in
+    let n : length m.cards ≡ cards = eqb-true _ _ p.0 in
+    let z : sizes_good m ≡ true = sym (said m refl n refl) ∙ p.1 in
+    let f : length m.lists ≤ length items = omega (arith, room, (sizes m z).lists, (sizes m z).most) in
+    record { as_many = n; good = z; fits = f; front = omega (arith, f, length-take (length m.lists) items) }
 
 -- What was lent in front of a buffer is what comes back in front.
 pub front-back : {A : Type 0} (n : ℕ) (front rest : List A) → length front ≡ n → take n (front ++ rest) ≡ front
@@ -239,8 +263,14 @@ module _ (number : ℕ) (working cards : List (List ℕ)) where
   unfolding cards_left
   cards-carried n = rw (eq-eqb number accepted n)
 
+-- What is said of some cards holds of the same ones.
+pub same-cards : (number : ℕ) (area : List ℕ) (cards cards' : List (List ℕ)) (lists head memory : List ℕ) {o : Opening} → cards ≡ cards'
+    → opening number (lent area cards' lists head memory) ≡ o → opening number (lent area cards lists head memory) ≡ o
+same-cards number area cards cards' lists head memory e h = rw e h
+
 -- What was opened had as many working rows as cards.
-pub as-many-opened : (number : ℕ) (l m : Lent) (working : List (List ℕ)) (bytes : List ℕ) → opening number l ≡ open_with working m bytes → number ≡ accepted
+pub as-many-opened : (number : ℕ) (l m : Lent) (working : List (List ℕ)) (bytes : List ℕ) → opening number l ≡ open_with working m bytes
+    → number ≡ accepted
     → length working ≡ length m.cards
 unfolding open_with
 as-many-opened number l m working bytes e n =

@@ -30,7 +30,8 @@ module _ (m : Lent) (number : ℕ) (e : number ≡ check m) where
   unfolding check
   save-kept n =
       cases (sizes_good m)
-      (λ z. cases (is_empty (broken m)) (λ b. record { sizes = z; unbroken = empty-list (broken m) b }) (λ b. let e' = rw (z, b) at e in absurd (omega arith)))
+      (λ z. cases (is_empty (broken m)) (λ b. record { sizes = z; unbroken = empty-list (broken m) b })
+      (λ b. let e' = rw (z, b) at e in absurd (omega arith)))
       (λ z. let e' = rw z at e in absurd (omega arith))
 
 module _ (m : Lent) (k : Kept m) (buffer : List ℕ) where

@@ -5,6 +5,5 @@
 // before.
 #![tactic(auto)]
 
-mod carry;
 pub mod open;
 pub mod save;

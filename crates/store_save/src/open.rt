@@ -7,12 +7,10 @@ ghost use Rattle.saved_book.specs.Opened.{opened_over};
 ghost use Rattle.saved_book.specs.Calls.{opening, open_book, open_with, working_after};
 ghost use Rattle.store_save.specs.Left.{opened_into, Beside, book_in, book_out, book_after};
 
-use super::carry;
 use book::head::HeadWords;
 use book::row::Row;
 use book::{head, limits, sizes};
 use saved_form::form;
-use saved_form::form::Form;
 use table::limits::{PLACE_SIZE, PlaceBytes};
 use wire::results;
 
@@ -42,7 +40,7 @@ fn open_into(
             letter: 0,
         };
     }
-    let Form::Book(parts) = form::form_of(bytes) else {
+    let Some(parts) = form::form_of(bytes) else {
         return Opened {
             number: results::NOT_A_BOOK,
             letter: 0,
@@ -96,7 +94,7 @@ fn open_within(
     if opened.number != results::ACCEPTED {
         return opened;
     }
-    carry::items(&items[..n], lists);
+    lists.copy_from_slice(&items[..n]);
     *head = *words;
     *memory = *table;
     opened
@@ -153,6 +151,6 @@ pub fn open(
     if opened.number != results::ACCEPTED {
         return opened;
     }
-    carry::rows(working, cards);
+    cards.copy_from_slice(working);
     opened
 }

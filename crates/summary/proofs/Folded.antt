@@ -63,16 +63,6 @@ listed k =
 
 -- ---- the lanes summed
 
--- A sum of two halves of a word, and of two quarters of that, is the sum of its lanes.
-pub folded : (w a b c d : ℕ) → Lanes w a b c d
-    → bit_and (bit_and w 0xffffffff + w / 4294967296) 0xffff + (bit_and w 0xffffffff + w / 4294967296) / 65536 ≡ a + (b + (c + d))
-folded w a b c d l =
-    let low : bit_and w 0xffffffff ≡ b * 65536 + a = and_mask w 32 ∙ omega arith in
-    let high : w / 4294967296 ≡ d * 65536 + c = omega arith in
-    let half : bit_and w 0xffffffff + w / 4294967296 ≡ (b + d) * 65536 + (a + c) = omega arith in
-    let last : bit_and ((b + d) * 65536 + (a + c)) 0xffff ≡ a + c = and_mask ((b + d) * 65536 + (a + c)) 16 ∙ omega arith in
-    rw (half, last) (omega arith)
-
 -- Eight bytes.
 record Eight (b0 b1 b2 b3 b4 b5 b6 b7 : ℕ) : Type 0 where
   h0 : b0 < 256

@@ -69,14 +69,11 @@ pub fn of_table(table: &[u8]) -> Words
     requires { MemoryPlace table.now }
     ensures { result ≡ words_of (summary_of (keys_of (entries table.now))) }
 {
-    let n = search::count(table);
     let mut s: Summary = [0; SUMMARY_BYTES];
-    let mut i = 0;
     let mut at = limits::TABLE_HEAD;
-    while i < n {
+    for _ in 0..search::count(table) {
         add_key(&mut s, entry::key_at(table, at));
-        at += entry::length_at(table, at) as usize;
-        i += 1;
+        at += usize::from(entry::length_at(table, at));
     }
     words_of(&s)
 }
@@ -111,7 +108,7 @@ pub fn count(words: &[u64]) -> usize
     (low + high) as usize
 }
 
-// Are these words those? All are compared, without an end at the first that differs: most are equal.
+// Are these words those? All are compared, without an end at the first that differs, which `==` of slices has: most are equal.
 pub fn same(words: &[u64], right: Words) -> bool
     requires { length words.now ≡ summary_words }
     ensures { result ≡ same_words words.now right }

@@ -11,10 +11,8 @@ pub fn skip(list: &[u8], count: usize) -> usize
     ensures { result ≡ position_of list.now count }
 {
     let mut at = 0;
-    let mut left = count;
-    while 0 < left {
-        at += entry::length_at(list, at) as usize;
-        left -= 1;
+    for _ in 0..count {
+        at += usize::from(entry::length_at(list, at));
     }
     at
 }

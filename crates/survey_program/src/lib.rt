@@ -1,14 +1,14 @@
 // The program `survey` as a function: a new store of 32 places with threshold 4 runs standard input.
 #![tactic(auto)]
 
-ghost use Rattle.std.specs.Prelude.{◌≡◌, false};
+ghost use Rattle.std.specs.Prelude.{◌≡◌, None};
+ghost use Rattle.std.specs.Option.{is_some};
 ghost use Rattle.std.specs.Io.KnownBytes.{Appends};
 ghost use Rattle.survey_deliver.specs.Whole.{Told, answers_of};
 
 use book::head::HEAD_WORDS;
 use book::limits::LEVELS;
 use book::row::ROW_WORDS;
-use noted::Noted;
 use std::io;
 use std::io::Write;
 use store_owned::PLACES;
@@ -18,7 +18,6 @@ use table::limits::PLACE_SIZE;
 use wire::list::LIST_LIMIT;
 
 mod input;
-mod noted;
 
 // A table with so many links is merged.
 pub const THRESHOLD: u64 = 4;
@@ -33,8 +32,8 @@ const INPUT_BYTES: usize = LIST_LIMIT + 1;
 
 // Runs a list over a new store and writes its answers to a writer.
 pub fn survey_list<W: Write>(out: &mut W, list: &[u8]) -> Delivered
-    ensures told { Told list.now result.number result.served result.written result.failed }
-    ensures handed_on { result.failed ≡ false → Appends (W.contents out.old) (W.contents out.new) (answers_of list.now) }
+    ensures told { Told list.now result.number result.served result.written (is_some result.failed) }
+    ensures handed_on { result.failed ≡ None → Appends (W.contents out.old) (W.contents out.new) (answers_of list.now) }
 {
     let mut area = [0u8; AREA_BYTES];
     let blank = store_cards::card_of([0u64; ROW_WORDS]);
@@ -67,24 +66,16 @@ pub fn survey_list<W: Write>(out: &mut W, list: &[u8]) -> Delivered
 // Runs standard input and writes the answers to standard output.
 pub fn survey(rt: &HostRuntime) {
     let mut space = [0u8; INPUT_BYTES];
-    let mut from = Noted::new(rt.stdin());
-    let got = input::read_all(&mut from, &mut space);
-    if got.failed {
-        fail(rt, "survey: standard input", from.error);
-        return;
-    }
-    let n = got.length;
-    let mut to = Noted::new(rt.stdout());
-    let done = survey_list(&mut to, &space[..n]);
-    if done.failed {
-        fail(rt, "survey: standard output", to.error);
+    let n = match input::read_all(&mut rt.stdin(), &mut space) {
+        Ok(n) => n,
+        Err(e) => return fail(rt, "survey: standard input", e.error),
+    };
+    if let Some(e) = survey_list(&mut rt.stdout(), &space[..n]).failed {
+        fail(rt, "survey: standard output", e);
     }
 }
 
 // Writes a line to standard error: what failed, and why.
-fn fail(rt: &impl Eprint, what: &str, why: Option<io::Error>) {
-    let _ = match why {
-        Some(e) => eprintln!(rt; "{what}: {e}"),
-        None => eprintln!(rt; "{what}"),
-    };
+fn fail(rt: &impl Eprint, what: &str, why: io::Error) {
+    let _ = eprintln!(rt; "{what}: {why}");
 }

@@ -55,7 +55,8 @@ front es = simp (length-append, length-bytes_of) (omega arith)
 
 -- The three writes, over the bytes of a table.
 written : (es : List Entry) (e : Entry) → table_length es + entry_length e ≤ place_size
-    → sets (sets (sets (table_bytes es) (table_length es) (entry_bytes e)) 0 (bytes_of 2 (table_length es + entry_length e))) 4 (bytes_of 2 (length es + 1))
+    → sets (sets (sets (table_bytes es) (table_length es) (entry_bytes e)) 0 (bytes_of 2 (table_length es + entry_length e)))
+    4 (bytes_of 2 (length es + 1))
     ≡ table_bytes (es ++ e ∷ [])
 unfolding table_bytes
 written es e fits =

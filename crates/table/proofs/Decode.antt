@@ -1,6 +1,6 @@
 -- Decode after encode: a place that holds the bytes of valid entries shows those entries and is a table.
 -- Read from left to right: where `drop at s` begins with some bytes, those are what stands at `at`, and the rest stands behind them.
-use Prim.Native.Nat.{ℕ, zero, suc, ◌+◌, ◌*◌, ◌-◌, ◌^◌, ◌≤◌, ◌<◌}
+use Prim.Native.Nat.{ℕ, suc, ◌+◌, ◌*◌, ◌-◌, ◌^◌, ◌≤◌, ◌<◌}
 use mathlib.Core.Path.{◌≡◌, refl, sym, ◌∙◌, ap}
 use mathlib.Core.Bool.{true}
 use mathlib.Core.List.{List, [], ◌∷◌, ◌++◌, append_assoc}
@@ -14,7 +14,8 @@ use Rattle.coding.specs.Number.{number_at, bytes_of, Bytes}
 use Rattle.coding.proofs.NumberLaws.{number_at-there, length-bytes_of, bytes-bytes_of, bytes-append}
 use Rattle.table.specs.Limits.{value_limit, entry_head, entry_limit, table_head, table_limit, place_size}
 use Rattle.table.specs.Entry.{Entry, kind_of, value_bytes, entry_length, entry_bytes, entry_of, entry_at, entry_form, length_at, kind_at, key_at}
-use Rattle.table.specs.Table.{zeros, count_of, entries_bytes, table_length, table_bytes, entries_at, entries, entries_good, table_good, is_table, is_memory}
+use Rattle.table.specs.Table.{zeros, count_of, entries_bytes, table_length, table_bytes, entries_at, entries}
+use Rattle.table.specs.Table.{entries_good, table_good, is_table, is_memory}
 use Rattle.table.specs.Valid.{Keys, Values, Valid}
 use Rattle.table.proofs.Zeros.{length-zeros, zeros-zero, bytes-zeros}
 use Rattle.table.proofs.Bounds.{keys_below}

@@ -90,7 +90,12 @@ module _ (s : List ℕ) (b : Bytes s) where
     pub length_back : table_length (entries s) ≡ length_at s 0
     unfolding table_length
     length_back =
-        omega (arith, simp (length-append, length-drop) at (ap length whole_back.0), in_use, good-end (count_of s) s table_head 0 (length_at s 0) parts.good)
+        omega (
+          arith,
+          simp (length-append, length-drop) at (ap length whole_back.0),
+          in_use,
+          good-end (count_of s) s table_head 0 (length_at s 0) parts.good,
+        )
 
     -- The place holds just the bytes of the entries that it shows.
     pub encode : table_bytes (entries s) ≡ s

@@ -5,13 +5,14 @@ use mathlib.Core.Bool.{Bool, true, false, cond, ◌&&◌, ◌||◌, and_assoc, a
 use mathlib.Core.List.{List, [], ◌∷◌}
 use native.Mathlib.Omega.{arith}
 use native.Mathlib.Numerals.{add-one}
+use borrow.Author.Tests.{le-leb, lt-leb}
 use lib.Dec.{leb, ltb, eqb, leb-zero, eqb-suc-zero}
-use lib.ListN.{length, get_or, set, drop, drop_of_length-le}
-use lib.Seq.{sets, drop-cons}
+use lib.ListN.{length, get_or, drop, drop_of_length-le}
+use lib.Seq.{drop-cons}
 use Rattle.coding.specs.Number.{number_at}
 use Rattle.table.specs.Limits.{table_head, table_limit}
 use Rattle.table.specs.Entry.{Entry, length_at, kind_at, key_at, entry_form}
-use Rattle.table.specs.Table.{count_of, zeros, entries_at, entries_good, all_zero, table_good}
+use Rattle.table.specs.Table.{count_of, entries_at, entries_good, all_zero, table_good}
 use Rattle.table.specs.Search.{count_below, greatest_key}
 use Rattle.table.proofs.Found.{entry_at-key}
 
@@ -60,6 +61,26 @@ pub below_end : (k n i : ℕ) (s : List ℕ) (at : ℕ) → n ≤ i → count_be
 unfolding entries_at count_below
 below_end k n i s at h = let e : n - i ≡ 0 = omega arith in rw e
 
+-- Counting them from the front on: i are passed, and `whole` are those and the ones below k that are left, from the i-th on at `at`.
+module _ (k n i : ℕ) (s : List ℕ) (at whole : ℕ) (e : whole ≡ i + count_below k (entries_at (n - i) s at)) where
+  -- The first that is not below k ends them.
+  pub all-passed : i < n → (x : ℕ) → x ≡ key_at s at → k ≤ x → i ≡ whole
+  all-passed h x p q =
+      let t : count_below k (entries_at (n - i) s at) ≡ 0 = below-turn k n i s at h ∙ rw (le-leb k (key_at s at) (omega arith)) in
+      omega (arith, e, t)
+
+  -- One that is below k is counted on.
+  pub one-passed : i < n → (x : ℕ) → x ≡ key_at s at → x < k → (len : ℕ) → len ≡ length_at s at
+      → whole ≡ i + 1 + count_below k (entries_at (n - (i + 1)) s (at + len))
+  one-passed h x p q len l =
+      let t : count_below k (entries_at (n - i) s at) ≡ suc (count_below k (entries_at (n - (i + 1)) s (at + length_at s at))) =
+      below-turn k n i s at h ∙ rw (lt-leb k (key_at s at) (omega arith)) in
+      rw l (omega (arith, e, t))
+
+  -- Where none is left, all are passed.
+  pub none-left : n ≤ i → i ≡ whole
+  none-left h = omega (arith, e, below_end k n i s at h)
+
 -- The last key of some entries, `last` being the key before them: theirs, or `last` where there are none. It is the greatest.
 unfoldable pub last_after : (last : ℕ) → List Entry → ℕ
 last_after last [] = last
@@ -89,17 +110,3 @@ pub good-head : (fewest : ℕ) (s : List ℕ)
     && (entries_good (count_of s) s table_head 0 (length_at s 0) && all_zero (drop (length_at s 0) s))
 unfolding table_good
 good-head fewest s = simp and_assoc
-
--- What is left to copy is this byte and those behind it.
-pub copy-turn : (d : List ℕ) (at : ℕ) (v : List ℕ) (i : ℕ) → i < length v
-    → sets d (at + i) (drop i v) ≡ sets (set d (at + i) (get_or v i 0)) (at + (i + 1)) (drop (i + 1) v)
-copy-turn d at v i h =
-    let e : at + (i + 1) ≡ suc (at + i) = omega arith in
-    rw (e, add-one i, drop-cons v i 0 h)
-
--- What is left to wipe is this byte and those behind it.
-pub wipe-turn : (s : List ℕ) (n i : ℕ) → i < n → sets s i (zeros (n - i)) ≡ sets (set s i 0) (i + 1) (zeros (n - (i + 1)))
-unfolding zeros
-wipe-turn s n i h =
-    let e : n - i ≡ suc (n - (i + 1)) = omega arith in
-    rw (e, add-one i)

@@ -71,3 +71,16 @@ pub within-from : (s : List ℕ) (low high : ℕ) → is_memory s ≡ true
     ≡ count_below (suc high) (entries_at (count_of s - count_below low (entries s)) s (position_in (count_below low (entries s)) s))
 unfolding entries position_in
 within-from s low high m = from_low (count_of s) s table_head 0 (length_at s 0) low high (memory-good s m).good
+
+-- At most all are below a key.
+pub below_few : (k n : ℕ) (s : List ℕ) (at : ℕ) → count_below k (entries_at n s at) ≤ n
+unfolding entries_at count_below
+below_few k zero s at = omega arith
+below_few k (suc n) s at =
+    cases (leb k (key_at s at))
+    (λ q. rw (entry_at-key s at, q) (omega arith))
+    (λ q. rw (entry_at-key s at, q) (omega (arith, below_few k n s (at + length_at s at))))
+
+pub below-few : (k : ℕ) (s : List ℕ) → count_below k (entries s) ≤ count_of s
+unfolding entries
+below-few k s = below_few k (count_of s) s table_head

@@ -60,7 +60,8 @@ empty-written =
 
 -- An entry's bytes, the new length in use and the new count.
 pub append-written : (s : List ℕ) (kind key : ℕ) (v : List ℕ) → entry_form kind (entry_head + length v) ≡ true
-    → sets (sets (sets s (length_at s 0) (entry_bytes (entry_of kind key v))) 0 (bytes_of 2 (length_at s 0 + entry_head + length v))) 4 (bytes_of 2 (count_of s + 1))
+    → sets (sets (sets s (length_at s 0) (entry_bytes (entry_of kind key v))) 0 (bytes_of 2 (length_at s 0 + entry_head + length v)))
+    4 (bytes_of 2 (count_of s + 1))
     ≡ appended (entry_of kind key v) s
 unfolding appended
 append-written s kind key v h =

@@ -8,6 +8,7 @@ use native.Mathlib.Nat.{suc-add, zero-add}
 use borrow.Author.Tests.{eqb-true}
 use lib.Dec.{eqb}
 use lib.ListN.{length}
+use Rattle.std.specs.Prelude.{replicate}
 use Rattle.coding.specs.Number.{Bytes}
 use Rattle.table.specs.Table.{zeros, all_zero}
 use Rattle.table.proofs.Tests.{and_parts}
@@ -21,6 +22,11 @@ pub zeros-add : (m n : ℕ) → zeros (m + n) ≡ zeros m ++ zeros n
 unfolding zeros
 zeros-add zero n = rw (zero-add n)
 zeros-add (suc m) n = rw (suc-add m n, zeros-add m n)
+
+pub zeros-replicate : (n : ℕ) → zeros n ≡ replicate n 0
+unfolding zeros
+zeros-replicate zero = refl
+zeros-replicate (suc n) = ap (λ s. 0 ∷ s) (zeros-replicate n)
 
 -- Bytes that are all zero are a run of zeros, and the other way round.
 pub zero-bytes : (s : List ℕ) → all_zero s ≡ true → s ≡ zeros (length s)

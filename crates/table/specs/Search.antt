@@ -1,12 +1,11 @@
 -- First matches in a list of entries, how many lie in a range, and where in a place's bytes they stand. No definition
 -- uses that keys rise; the code does.
 use Rattle.std.specs.Prelude.{ℕ, zero, suc, ◌+◌, List, [], ◌∷◌, cond, ◌&&◌, leb, eqb}
+use Rattle.std.specs.Prelude as code
 use Rattle.std.proofs.Math.Option.{Option, some, none}
 use Rattle.table.specs.Limits.{table_head}
 use Rattle.table.specs.Entry.{Entry, length_at, key_at, entry_at}
 use Rattle.table.specs.Table.{count_of}
-use Rattle.table.specs.declared.search.Found.{Found}
-use Rattle.table.specs.declared.search.Found.TheVariants.{At, Nothing}
 
 -- The first entry with this key.
 unfoldable pub find : ℕ → List Entry → Option Entry
@@ -48,22 +47,22 @@ unfoldable pub position_in : (i : ℕ) → List ℕ → ℕ
 position_in i s = position_at i s table_head
 
 -- Where `find` has its answer, in n entries from a position on and in a whole place.
-unfoldable pub find_at : (n : ℕ) → List ℕ → (at key : ℕ) → Found
-find_at zero s at k = Nothing
-find_at (suc n) s at k = cond (eqb (key_at s at) k) (At at) (find_at n s (at + length_at s at) k)
+unfoldable pub find_at : (n : ℕ) → List ℕ → (at key : ℕ) → code.Option ℕ
+find_at zero s at k = code.None
+find_at (suc n) s at k = cond (eqb (key_at s at) k) (code.Some at) (find_at n s (at + length_at s at) k)
 
-unfoldable pub find_in : List ℕ → (key : ℕ) → Found
+unfoldable pub find_in : List ℕ → (key : ℕ) → code.Option ℕ
 find_in s k = find_at (count_of s) s table_head k
 
 -- Where `first_from` has its answer.
-unfoldable pub seek_at : (n : ℕ) → List ℕ → (at key : ℕ) → Found
-seek_at zero s at k = Nothing
-seek_at (suc n) s at k = cond (leb k (key_at s at)) (At at) (seek_at n s (at + length_at s at) k)
+unfoldable pub seek_at : (n : ℕ) → List ℕ → (at key : ℕ) → code.Option ℕ
+seek_at zero s at k = code.None
+seek_at (suc n) s at k = cond (leb k (key_at s at)) (code.Some at) (seek_at n s (at + length_at s at) k)
 
-unfoldable pub seek_in : List ℕ → (key : ℕ) → Found
+unfoldable pub seek_in : List ℕ → (key : ℕ) → code.Option ℕ
 seek_in s k = seek_at (count_of s) s table_head k
 
 -- The entry at a place that was found.
-unfoldable pub shown : List ℕ → Found → Option Entry
-shown s (At at) = some (entry_at s at)
-shown s Nothing = none
+unfoldable pub shown : List ℕ → code.Option ℕ → Option Entry
+shown s (code.Some at) = some (entry_at s at)
+shown s code.None = none

@@ -8,13 +8,6 @@ use super::{entry, limits};
 use coding::key::Key;
 use coding::number;
 
-// Where an entry was found: the position of its first byte.
-#[derive(Clone, Copy)]
-pub enum Found {
-    At(usize),
-    Nothing,
-}
-
 // An entry by its index and by the position of its first byte.
 #[derive(Clone, Copy)]
 pub struct EntryAt {
@@ -23,11 +16,12 @@ pub struct EntryAt {
 }
 
 // How many entries the table says it has.
+#[tactic(auto, unfolding(crate::specs::Table::count_of))]
 pub fn count(s: &[u8]) -> usize
     requires { length s.now ≡ place_size }
     ensures { result ≡ count_of s.now }
 {
-    number::get_u16(s, 4) as usize
+    usize::from(number::get_u16(s, 4))
 }
 
 // The first entry whose key is not below this one, or the end of all.
@@ -37,43 +31,39 @@ pub fn first_from(s: &[u8], key: Key) -> EntryAt
         × (result.at ≡ position_in result.index s.now) }
 {
     let n = count(s);
-    let mut i = 0;
     let mut at = limits::TABLE_HEAD;
-    while i < n {
-        if key.at_most(entry::key_at(s, at)) {
-            return EntryAt { index: i, at };
+    for index in 0..n {
+        if key <= entry::key_at(s, at) {
+            return EntryAt { index, at };
         }
-        at += entry::length_at(s, at) as usize;
-        i += 1;
+        at += usize::from(entry::length_at(s, at));
     }
-    EntryAt { index: i, at }
+    EntryAt { index: n, at }
 }
 
-// The same as a position: the least key from there on.
-pub fn seek(s: &[u8], key: Key) -> Found
+// The position of its first byte, if there is one: the least key from there on.
+pub fn seek(s: &[u8], key: Key) -> Option<usize>
     requires { MemoryPlace s.now }
     ensures { result ≡ seek_in s.now key.value }
 {
     let first = first_from(s, key);
     if first.index < count(s) {
-        Found::At(first.at)
+        Some(first.at)
     } else {
-        Found::Nothing
+        None
     }
 }
 
-// The entry with this key.
-pub fn find(s: &[u8], key: Key) -> Found
+// Where the entry with this key stands, if there is one.
+pub fn find(s: &[u8], key: Key) -> Option<usize>
     requires { MemoryPlace s.now }
     ensures { result ≡ find_in s.now key.value }
 {
-    let Found::At(at) = seek(s, key) else {
-        return Found::Nothing;
-    };
-    if entry::key_at(s, at).same(key) {
-        Found::At(at)
+    let at = seek(s, key)?;
+    if entry::key_at(s, at) == key {
+        Some(at)
     } else {
-        Found::Nothing
+        None
     }
 }
 
@@ -84,16 +74,14 @@ pub fn count_within(s: &[u8], low: Key, high: Key) -> usize
 {
     let n = count(s);
     let first = first_from(s, low);
-    let mut i = first.index;
     let mut at = first.at;
-    while i < n {
-        if high.below(entry::key_at(s, at)) {
+    for i in first.index..n {
+        if high < entry::key_at(s, at) {
             return i - first.index;
         }
-        at += entry::length_at(s, at) as usize;
-        i += 1;
+        at += usize::from(entry::length_at(s, at));
     }
-    i - first.index
+    n - first.index
 }
 
 // Where the i-th entry stands, counted from 0.
@@ -101,11 +89,9 @@ pub fn nth(s: &[u8], i: usize) -> usize
     requires { MemoryPlace s.now × (i < count_of s.now) }
     ensures { result ≡ position_in i s.now }
 {
-    let mut j = 0;
     let mut at = limits::TABLE_HEAD;
-    while j < i {
-        at += entry::length_at(s, at) as usize;
-        j += 1;
+    for _ in 0..i {
+        at += usize::from(entry::length_at(s, at));
     }
     at
 }

@@ -1,5 +1,5 @@
 // Are these bytes a table? Rule C for a place, rule D for the memory table. Nothing is assumed of the bytes.
-ghost use Rattle.std.specs.Prelude.{◌≡◌, true, ◌≤◌, length, drop};
+ghost use Rattle.std.specs.Prelude.{◌≡◌, ◌≤◌, length, drop, is_some, IfSome};
 ghost use Rattle.table.specs.Limits.{place_size, table_head, table_limit};
 ghost use Rattle.table.specs.Entry.{entry_form};
 ghost use Rattle.table.specs.Table.{entries, entries_at, entries_good, all_zero, table_good, is_table, is_memory};
@@ -8,19 +8,6 @@ ghost use Rattle.table.specs.Search.{greatest_key};
 use super::{entry, limits, search};
 use coding::key::Key;
 use coding::number;
-
-// What a judging of entries found: whether they are good, and the key of the last of them, which is the greatest where they are.
-#[derive(Clone, Copy)]
-pub struct Judged {
-    pub good: bool,
-    pub last: Key,
-}
-
-// What is found of entries that are not good.
-const NOT_GOOD: Judged = Judged {
-    good: false,
-    last: Key::LEAST,
-};
 
 // May an entry of this kind have this length? Nearly all are values: a branch that is nearly always taken costs least.
 pub fn entry_form(kind: u16, len: usize) -> bool
@@ -37,77 +24,75 @@ fn rest_zero(s: &[u8], from: usize) -> bool
     ensures { result ≡ all_zero (drop from s.now) }
 {
     let mut zero = true;
-    let mut i = from;
-    while i < s.len() {
-        zero = zero & (s[i] == 0);
-        i += 1;
+    for i in from..s.len() {
+        zero &= s[i] == 0;
     }
     zero
 }
 
-// Are the n entries behind the table's head of the right form, keys rising, and do they end just at `end`?
-fn judge_entries(s: &[u8], n: usize, end: usize) -> Judged
+// Are the n entries behind the table's head of the right form, keys rising, and do they end just at `end`? If so, the key of the last of
+// them, which is the greatest.
+fn judge_entries(s: &[u8], n: usize, end: usize) -> Option<Key>
     requires { (length s.now ≡ place_size) × (n ≤ table_limit) }
-    ensures { (result.good ≡ entries_good n s.now table_head 0 end)
-        × (result.good ≡ true → result.last.value ≡ greatest_key (entries_at n s.now table_head)) }
+    ensures good { is_some result ≡ entries_good n s.now table_head 0 end }
+    ensures greatest { IfSome result (λ k. k.value ≡ greatest_key (entries_at n s.now table_head)) }
 {
-    let mut i = 0;
     let mut at = limits::TABLE_HEAD;
     let mut last = Key::LEAST;
-    while i < n {
-        let len = entry::length_at(s, at) as usize;
+    for i in 0..n {
+        let len = usize::from(entry::length_at(s, at));
         if !entry_form(entry::kind_at(s, at), len) {
-            return NOT_GOOD;
+            return None;
         }
         let key = entry::key_at(s, at);
-        let rises = (i == 0) | last.below(key);
+        let rises = (i == 0) | (last < key);
         if !rises {
-            return NOT_GOOD;
+            return None;
         }
         at += len;
         last = key;
-        i += 1;
     }
-    Judged {
-        good: at == end,
-        last,
-    }
+    if at == end { Some(last) } else { None }
 }
 
-// Is this a table of `fewest` to 16 entries?
-fn judge_form(s: &[u8], fewest: usize) -> Judged
+// Is this a table of `fewest` to 16 entries? If so, its greatest key.
+fn judge_form(s: &[u8], fewest: usize) -> Option<Key>
     requires { length s.now ≡ place_size }
-    ensures { (result.good ≡ table_good fewest s.now)
-        × (result.good ≡ true → result.last.value ≡ greatest_key (entries s.now)) }
+    ensures good { is_some result ≡ table_good fewest s.now }
+    ensures greatest { IfSome result (λ k. k.value ≡ greatest_key (entries s.now)) }
 {
-    let end = entry::length_at(s, 0) as usize;
+    let end = usize::from(entry::length_at(s, 0));
     let kind = entry::kind_at(s, 0);
     let n = search::count(s);
     let zero = number::get_u16(s, 6);
-    if (kind == limits::TABLE) & ((fewest <= n) & ((n <= limits::TABLE_LIMIT) & (zero == 0))) {
-        let judged = judge_entries(s, n, end);
-        let last = judged.last;
-        return Judged {
-            good: judged.good & rest_zero(s, end),
-            last,
-        };
+    let headed = (kind == limits::TABLE)
+        & ((fewest <= n) & ((n <= limits::TABLE_LIMIT) & (zero == 0)));
+    if !headed {
+        return None;
     }
-    NOT_GOOD
+    let greatest = judge_entries(s, n, end)?;
+    if rest_zero(s, end) {
+        Some(greatest)
+    } else {
+        None
+    }
 }
 
-// Rule C of one place: is it a table? And its greatest key.
-pub fn judge(s: &[u8]) -> Judged
+// Rule C of one place: is it a table? If so, its greatest key.
+#[tactic(auto, unfolding(crate::specs::Table::is_table))]
+pub fn judge(s: &[u8]) -> Option<Key>
     requires { length s.now ≡ place_size }
-    ensures { (result.good ≡ is_table s.now)
-        × (result.good ≡ true → result.last.value ≡ greatest_key (entries s.now)) }
+    ensures good { is_some result ≡ is_table s.now }
+    ensures greatest { IfSome result (λ k. k.value ≡ greatest_key (entries s.now)) }
 {
     judge_form(s, 1)
 }
 
 // Rule D: is this a memory table?
+#[tactic(auto, unfolding(crate::specs::Table::is_memory))]
 pub fn is_memory(s: &[u8]) -> bool
     requires { length s.now ≡ place_size }
     ensures { result ≡ is_memory s.now }
 {
-    judge_form(s, 0).good
+    judge_form(s, 0).is_some()
 }

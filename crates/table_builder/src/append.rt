@@ -27,7 +27,7 @@ pub fn append(s: &mut [u8], kind: u16, key: Key, value: &[u8])
     requires { Appends s.old kind value.now }
     ensures { s.new ≡ appended (entry_of kind key.value value.now) s.old }
 {
-    let end = entry::length_at(s, 0) as usize;
+    let end = usize::from(entry::length_at(s, 0));
     let n = search::count(s);
     put_entry(s, end, kind, key, value);
     number::put_u16(s, 0, (end + limits::ENTRY_HEAD + value.len()) as u16);
@@ -40,7 +40,7 @@ pub fn append_from(to: &mut [u8], s: &[u8], at: usize)
         × ((entry_form (kind_at s.now at) (length_at s.now at) ≡ true) × (at + length_at s.now at ≤ length s.now)) }
     ensures { to.new ≡ appended (entry_at s.now at) to.old }
 {
-    let len = entry::length_at(s, at) as usize;
+    let len = usize::from(entry::length_at(s, at));
     let kind = entry::kind_at(s, at);
     let key = entry::key_at(s, at);
     let start = at + limits::ENTRY_HEAD;
@@ -55,7 +55,7 @@ pub fn copy_entry(s: &[u8], from: usize, dst: &mut [u8], at: usize) -> usize
     ensures { (dst.new ≡ sets dst.old at (entry_bytes (entry_at s.now from)))
         × ((result ≡ length (entry_bytes (entry_at s.now from))) × (result ≤ entry_limit)) }
 {
-    let len = entry::length_at(s, from) as usize;
+    let len = usize::from(entry::length_at(s, from));
     let kind = entry::kind_at(s, from);
     let key = entry::key_at(s, from);
     let start = from + limits::ENTRY_HEAD;

@@ -12,22 +12,14 @@ pub fn copy(dst: &mut [u8], at: usize, src: &[u8])
     requires { at + length src.now ≤ length dst.old }
     ensures { dst.new ≡ sets dst.old at src.now }
 {
-    let mut i = 0;
-    while i < src.len() {
-        dst[at + i] = src[i];
-        i += 1;
-    }
+    dst[at..at + src.len()].copy_from_slice(src);
 }
 
 // Makes all bytes zero.
 pub fn wipe(s: &mut [u8])
     ensures { s.new ≡ zeros (length s.old) }
 {
-    let mut i = 0;
-    while i < s.len() {
-        s[i] = 0;
-        i += 1;
-    }
+    s.fill(0);
 }
 
 // Makes the place an empty table.
@@ -45,5 +37,5 @@ pub fn write_place(area: &mut [u8], start: usize, table: &[u8])
     requires { (start + place_size ≤ length area.old) × (length table.now ≡ place_size) }
     ensures { area.new ≡ sets area.old start table.now }
 {
-    copy(&mut area[start..start + limits::PLACE_SIZE], 0, table);
+    copy(area, start, table);
 }

@@ -19,7 +19,8 @@ use Rattle.wire.specs.Rest.{rest}
 
 module _ (bytes : List ℕ) where
   -- A whole request has a length of at least 4 and ends within the list.
-  pub whole-fits : (at : ℕ) → whole_at bytes at ≡ true → (at + 4 ≤ length bytes) × ((4 ≤ length_at bytes at) × (at + length_at bytes at ≤ length bytes))
+  pub whole-fits : (at : ℕ) → whole_at bytes at ≡ true
+      → (at + 4 ≤ length bytes) × ((4 ≤ length_at bytes at) × (at + length_at bytes at ≤ length bytes))
   unfolding whole_at
   whole-fits at w =
       let a = and_parts (leb (at + 4) (length bytes)) _ w in
@@ -31,7 +32,8 @@ module _ (bytes : List ℕ) where
   unfolding whole_at
   whole-short at h = rw (lt-leb (at + 4) (length bytes) (omega arith))
 
-  pub whole-test : (at n : ℕ) → at ≤ length bytes → 4 ≤ length bytes - at → n ≡ length_at bytes at → (leb 4 n && leb n (length bytes - at)) ≡ whole_at bytes at
+  pub whole-test : (at n : ℕ) → at ≤ length bytes → 4 ≤ length bytes - at → n ≡ length_at bytes at
+      → (leb 4 n && leb n (length bytes - at)) ≡ whole_at bytes at
   unfolding whole_at
   whole-test at n h l e =
       rw (← e, le-leb (at + 4) (length bytes) (omega arith))
@@ -76,7 +78,8 @@ module _ (bytes : List ℕ) where
         let f = whole-fits at w in
         rw (one_more, off, w)
         (ap (map (λ rs. request_at bytes at ∷ rs))
-        (steps (length bytes - at - 1) (length bytes - (at + length_at bytes at)) (at + length_at bytes at) f.1.1 (omega (arith, f.1.0)) (omega arith)))
+        (steps (length bytes - at - 1) (length bytes - (at + length_at bytes at)) (at + length_at bytes at) f.1.1
+        (omega (arith, f.1.0)) (omega arith)))
 
     pub rest-broken : whole_at bytes at ≡ false → rest bytes at ≡ none
     unfolding rest

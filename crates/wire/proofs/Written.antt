@@ -37,7 +37,8 @@ reply-written a at kind result body =
 
 -- What is left to write is this number and those behind it.
 pub numbers-turn : (a : List ℕ) (at : ℕ) (ns : List ℕ) (i : ℕ) → i < length ns
-    → sets a (at + 2 * i) (numbers (drop i ns)) ≡ sets (sets a (at + 2 * i) (bytes_of 2 (get_or ns i 0))) (at + 2 * (i + 1)) (numbers (drop (i + 1) ns))
+    → sets a (at + 2 * i) (numbers (drop i ns))
+    ≡ sets (sets a (at + 2 * i) (bytes_of 2 (get_or ns i 0))) (at + 2 * (i + 1)) (numbers (drop (i + 1) ns))
 unfolding numbers
 numbers-turn a at ns i h =
     let e : at + 2 * i + length (bytes_of 2 (get_or ns i 0)) ≡ at + 2 * (i + 1) = omega (arith, length-bytes_of 2 (get_or ns i 0)) in

@@ -20,7 +20,7 @@ fn is_whole(list: &[u8], at: usize) -> bool
     if left < REQUEST_HEAD {
         return false;
     }
-    let len = entry::length_at(list, at) as usize;
+    let len = usize::from(entry::length_at(list, at));
     (REQUEST_HEAD <= len) & (len <= left)
 }
 
@@ -36,7 +36,7 @@ pub fn is_list(list: &[u8]) -> bool
         if !is_whole(list, at) {
             return false;
         }
-        at += entry::length_at(list, at) as usize;
+        at += usize::from(entry::length_at(list, at));
     }
     true
 }

@@ -27,10 +27,8 @@ pub fn put_numbers(answer: &mut [u8], at: usize, ns: &[u16])
     requires { at + 2 * length ns.now ≤ length answer.old }
     ensures { answer.new ≡ sets answer.old at (numbers ns.now) }
 {
-    let mut i = 0;
-    while i < ns.len() {
-        number::put_u16(answer, at + 2 * i, ns[i]);
-        i += 1;
+    for (i, &n) in ns.iter().enumerate() {
+        number::put_u16(answer, at + 2 * i, n);
     }
 }
 

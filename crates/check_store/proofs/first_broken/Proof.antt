@@ -1,7 +1,6 @@
 -- `first_broken` meets its contract: rule after rule, each as it is walked being the definition's; the last three together.
 use mathlib.Core.Path.{◌≡◌, sym, ◌∙◌}
 use mathlib.Core.Bool.{true}
-use borrow.Author.Tests.{not-true, not-false}
 use borrow.Author.Rules.{rules}
 use Rattle.ldc.specs.Rules.{rule_a}
 use Rattle.ldc.specs.Lent.{Lent, store_of, kept_b, kept_c}
@@ -45,7 +44,8 @@ kept-requires c κs = search rules
 returns : tie.Need-returns-then-not-kept
 returns c =
     let s = c in
-    letter-A (lent s.before.before.before.before.before.before) (rule-A (lent s.before.before.before.before.before.before) s.requires.0 ∙ sym c.kept.ensures ∙ c.if-not-kept.true)
+    letter-A (lent s.before.before.before.before.before.before) (rule-A (lent s.before.before.before.before.before.before) s.requires.0
+    ∙ sym c.kept.ensures ∙ c.if-not-kept.true)
 
 kept-requires-2 : tie.Need-kept-requires-2
 kept-requires-2 c κs = let s = start-A c.before in (s.requires.1.1, long-lists (lent s) s.requires.0)
@@ -87,7 +87,8 @@ same-length-5 c = search rules
 returns-4 : tie.Need-returns-then-not-is_memory
 returns-4 c =
     let k = c in
-    letter-D (lent (start-C k.before.before.before)) (a-kept (behind-A (behind-B k.before.before.before))) (b-kept (behind-B k.before.before.before)) (c-kept k.before.before.before)
+    letter-D (lent (start-C k.before.before.before)) (a-kept (behind-A (behind-B k.before.before.before))) (b-kept
+    (behind-B k.before.before.before)) (c-kept k.before.before.before)
     (sym c.is_memory.ensures ∙ c.if-not-is_memory.true)
 
 rest-letter-requires : tie.Need-rest_letter-requires
@@ -96,7 +97,11 @@ rest-letter-requires c κs =
     let b = behind-B k.before.before.before.before in
     let s = start-C k.before.before.before.before in
     let noted = k.kept-3.ensures.1 (k.if-not-kept-3.false) in (
-      (found (lent s) s.requires.0 (b-kept b) (c-kept k.before.before.before.before) _ noted, kept-C (lent s) s.requires.0 (b-kept b) (c-kept k.before.before.before.before)),
+      (
+        found (lent s) s.requires.0 (b-kept b) (c-kept k.before.before.before.before) _ noted,
+        kept-C (lent s) s.requires.0 (b-kept b)
+            (c-kept k.before.before.before.before),
+      ),
       b.marks-1.given ∙ s.requires.1.1,
     )
 
@@ -113,8 +118,10 @@ returns-5 c =
     let k = d in
     let s = start-C k.before.before.before.before.before.before.before in
     let memory = sym d.is_memory.ensures ∙ d.if-not-is_memory.false in
-    r.rest_letter.ensures ∙ rest-letters (lent s) s.requires.0 (a-kept (behind-A (behind-B k.before.before.before.before.before.before.before))) (b-kept (behind-B k.before.before.before.before.before.before.before)) (c-kept k.before.before.before.before.before.before.before) memory
+    r.rest_letter.ensures ∙ rest-letters (lent s) s.requires.0 (a-kept (behind-A (behind-B k.before.before.before.before.before.before.before)))
+    (b-kept (behind-B k.before.before.before.before.before.before.before)) (c-kept k.before.before.before.before.before.before.before) memory
 
 pub first_broken_spec : {M : Type 1} → statement M
 first_broken_spec =
-    tie.close (tie.spec kept-requires returns kept-requires-2 same_length returns-2 kept-requires-3 same-length-2 same-length-3 returns-3 is-memory-requires same-length-4 same-length-5 returns-4 rest-letter-requires same-length-6 same-length-7 returns-5)
+    tie.close (tie.spec kept-requires returns kept-requires-2 same_length returns-2 kept-requires-3 same-length-2 same-length-3 returns-3
+    is-memory-requires same-length-4 same-length-5 returns-4 rest-letter-requires same-length-6 same-length-7 returns-5)

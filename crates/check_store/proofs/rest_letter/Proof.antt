@@ -1,6 +1,5 @@
 -- `rest_letter` meets its contract: the quick yes, or rule after rule.
 use mathlib.Core.Path.{sym, ◌∙◌}
-use borrow.Author.Tests.{not-true, not-false}
 use borrow.Author.Rules.{rules}
 use Rattle.check_store.specs.Rest.{rest_letter}
 use Rattle.check_store.proofs.rest_letter.Statement.{statement}
@@ -68,4 +67,5 @@ returns-5 c =
 
 pub rest_letter_spec : {M : Type 1} → statement M
 rest_letter_spec =
-    tie.close (tie.spec rest-kept-requires same_length returns kept-requires same-length-2 returns-2 kept-requires-2 same-length-3 returns-3 kept-requires-3 same-length-4 returns-4 same-length-5 returns-5)
+    tie.close (tie.spec rest-kept-requires same_length returns kept-requires same-length-2 returns-2 kept-requires-2 same-length-3 returns-3
+    kept-requires-3 same-length-4 returns-4 same-length-5 returns-5)

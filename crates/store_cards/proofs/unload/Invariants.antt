@@ -1,11 +1,8 @@
--- The first i cards have the rows' words, the others are as they were.
-use Rattle.std.proofs.Common.{length, ◌-◌, ◌≡◌, ◌≤◌}
+-- The first p cards have the rows' words, the others are as they were.
+use Rattle.std.proofs.Common.{◌≡◌}
 use Rattle.store_cards.specs.Card.{rows_of}
 use Rattle.store_cards.proofs.Words.{mixed}
 use Rattle.store_cards.proofs.unload.Given as goal
 
-abbrev pub invariant-loop-i : goal.invariant-loop-i
-invariant-loop-i l = record { within : l.i ≤ length l.rows; cards : rows_of l.cards ≡ mixed l.i l.rows (rows_of l.initial.cards) }
-
-abbrev pub decreases-loop-i : goal.decreases-loop-i
-decreases-loop-i l = length l.rows - l.i
+abbrev pub invariant-loop-p : goal.invariant-loop-p
+invariant-loop-p l = rows_of l.cards ≡ mixed l.p l.rows (rows_of l.initial.cards)

@@ -1,7 +1,7 @@
 -- `refusal` meets its contract, by its ways out: each test has the answer that the definition's test has. The lent memory is any of the
 -- lengths given: `p`, `q` and `r` say so.
-use mathlib.Core.Path.{◌≡◌, sym, ◌∙◌, ap}
-use mathlib.Core.Bool.{Bool, true, cond}
+use mathlib.Core.Path.{sym, ◌∙◌, ap}
+use mathlib.Core.Bool.{Bool, cond}
 use Rattle.ldc.specs.Run.{accepted, broken_list}
 use Rattle.store_run.proofs.Runs.{early-sizes, early-short, early-listed}
 use Rattle.store_run.proofs.refusal.Goals as goal

@@ -1,6 +1,5 @@
 -- `level_apart` meets its contract: where the spans rise the links of each table decide, else all tables are compared.
 use mathlib.Core.Path.{sym, ◌∙◌}
-use borrow.Author.Tests.{not-true, not-false}
 use borrow.Author.Rules.{rules}
 use Rattle.check_walk.proofs.ApartLaws.{level-parts, level-rising}
 use Rattle.check_links.proofs.apart.level_apart.Statement.{statement}
@@ -17,7 +16,8 @@ rise-requires c κs = search rules
 
 returns-2 : tie.Need-returns-then-rise
 returns-2 c =
-    sym (level-rising c.args.area.now c.args.cards.now c.requires.sized c.args.items.now c.requires.names c.requires.tables (sym c.rise.ensures ∙ c.if-rise.true)
+    sym (level-rising c.args.area.now c.args.cards.now c.requires.sized c.args.items.now c.requires.names c.requires.tables
+    (sym c.rise.ensures ∙ c.if-rise.true)
     ∙ sym c.owns_apart.ensures ∙ c.if-not-owns_apart.false)
 
 tables-apart-requires : tie.Need-tables_apart-requires

@@ -1,7 +1,6 @@
 -- `kept` of rule E meets its contract, part after part.
 use mathlib.Core.Path.{◌≡◌, sym, ◌∙◌, ap}
 use native.Mathlib.Omega.{arith}
-use borrow.Author.Tests.{not-true, not-false}
 use borrow.Author.Rules.{rules}
 use lib.ListN.{length, take}
 use Rattle.ldc.specs.Layout.{items_in, part_in}
@@ -62,8 +61,13 @@ returns-3 c =
     let i = b in
     let h = i in
     l.levels_apart.ensures
-    ∙ sym (rw (sym h.cards_hang.ensures ∙ h.if-not-cards_hang.false, ← here i.before.before.before.before.before.before, sym b.all_bare.ensures ∙ b.if-not-all_bare.false))
+    ∙ sym (rw (
+      sym h.cards_hang.ensures ∙ h.if-not-cards_hang.false,
+      ← here i.before.before.before.before.before.before,
+      sym b.all_bare.ensures ∙ b.if-not-all_bare.false,
+    ))
 
 pub kept_spec : {M : Type 1} → statement M
 kept_spec =
-    tie.close (tie.spec element-copy-out-cards-hang cards-hang-requires returns length-requires items-requires all-bare-requires returns-2 levels-apart-requires same_length returns-3)
+    tie.close (tie.spec element-copy-out-cards-hang cards-hang-requires returns length-requires items-requires
+    all-bare-requires returns-2 levels-apart-requires same_length returns-3)

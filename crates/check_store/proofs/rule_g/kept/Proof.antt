@@ -1,6 +1,5 @@
 -- `kept` of rule G meets its contract, part after part.
 use mathlib.Core.Path.{sym, ◌∙◌}
-use borrow.Author.Tests.{not-true, not-false}
 use borrow.Author.Rules.{rules}
 use Rattle.check_places.specs.Parts.{walk_g}
 use Rattle.check_store.proofs.rule_g.kept.Statement.{statement}
@@ -30,7 +29,12 @@ unfolding walk_g
 returns-3 c =
     let r = c in
     let m = r in
-    sym (rw (sym m.head_marks_good.ensures ∙ m.if-not-head_marks_good.false, sym r.rows_rest_zero.ensures ∙ r.if-not-rows_rest_zero.false, sym c.lists_rest_zero.ensures ∙ c.if-not-lists_rest_zero.true))
+    sym (rw (
+      sym m.head_marks_good.ensures ∙ m.if-not-head_marks_good.false,
+      sym r.rows_rest_zero.ensures
+          ∙ r.if-not-rows_rest_zero.false,
+      sym c.lists_rest_zero.ensures ∙ c.if-not-lists_rest_zero.true,
+    ))
 
 levels-rise-requires : tie.Need-levels_rise-requires
 levels-rise-requires c κs = search rules
@@ -41,8 +45,14 @@ returns-4 c =
     let l = c in
     let r = l in
     let m = r in
-    c.levels_rise.ensures ∙ sym (rw (sym m.head_marks_good.ensures ∙ m.if-not-head_marks_good.false, sym r.rows_rest_zero.ensures ∙ r.if-not-rows_rest_zero.false, sym l.lists_rest_zero.ensures ∙ l.if-not-lists_rest_zero.false))
+    c.levels_rise.ensures ∙ sym (rw (
+      sym m.head_marks_good.ensures ∙ m.if-not-head_marks_good.false,
+      sym r.rows_rest_zero.ensures
+          ∙ r.if-not-rows_rest_zero.false,
+      sym l.lists_rest_zero.ensures ∙ l.if-not-lists_rest_zero.false,
+    ))
 
 pub kept_spec : {M : Type 1} → statement M
 kept_spec =
-    tie.close (tie.spec head-marks-good-requires returns rows-rest-zero-requires returns-2 lists-rest-zero-requires returns-3 levels-rise-requires returns-4)
+    tie.close (tie.spec head-marks-good-requires returns rows-rest-zero-requires returns-2 lists-rest-zero-requires returns-3
+    levels-rise-requires returns-4)

@@ -65,4 +65,5 @@ returns-3 c =
 
 pub is_due_spec : {M : Type 1} → statement M
 is_due_spec =
-    tie.close (tie.spec mul-link-count shared-slice-element-link-count link-count-requires returns returns-2 mul-weighs shared-slice-element-weighs count-requires weighs-requires returns-3)
+    tie.close (tie.spec mul-link-count shared-slice-element-link-count link-count-requires returns returns-2 mul-weighs
+    shared-slice-element-weighs count-requires weighs-requires returns-3)

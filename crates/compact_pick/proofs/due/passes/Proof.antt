@@ -44,4 +44,5 @@ returns-2 c =
 
 pub passes_spec : {M : Type 1} → statement M
 passes_spec =
-    tie.close (tie.spec enum-known-wanted is-due-requires enum_told mul-link-count shared-slice-element-link-count link-count-requires returns returns-2)
+    tie.close (tie.spec enum-known-wanted is-due-requires enum_told mul-link-count shared-slice-element-link-count link-count-requires returns
+    returns-2)

@@ -38,8 +38,8 @@ hand_on-requires g c = next-piece c.loop-from.invariant.0.0 c.next_piece-made.en
 
 -- ---- after the piece was handed on
 
-pub returns-then-not-hand_on-clause-finished : goal.returns-then-not-hand_on-clause-finished
-returns-then-not-hand_on-clause-finished g c =
+pub returns-in-Err-clause-finished : goal.returns-in-Err-clause-finished
+returns-in-Err-clause-finished g c =
     let i = c.loop-from.invariant in
     let e = c.next_piece-made.ensures in
     let z = c.if-made-ne-ACCEPTED.false in
@@ -55,8 +55,10 @@ loop-from-smaller g c =
 pub loop-from-preserved : goal.loop-from-preserved
 loop-from-preserved g c =
     let i = c.loop-from.invariant in
-    let e = c.next_piece-made.ensures in
-    ((next-reached i.0.0 e.0, next-stop i.0.0 e.0 i.1.0 i.0.1), (c.next_piece-made.auto.answer ∙ i.1.0, (e.1, grown-next i.0.0 e.0 (λ i. omega (arith, c.type_inv.list i)) _ _ _ i.1.1.1 (c.hand_on.ensures c.if-not-hand_on.false))))
+    let e = c.next_piece-made.ensures in (
+      (next-reached i.0.0 e.0, next-stop i.0.0 e.0 i.1.0 i.0.1),
+      (c.next_piece-made.auto.answer ∙ i.1.0, (e.1, grown-next i.0.0 e.0 (λ i. omega (arith, c.type_inv.list i)) _ _ _ i.1.1.1 c.in_default.ensures)),
+    )
 
 -- ---- at the end
 

@@ -8,11 +8,12 @@ use Rattle.survey_program.proofs.input.read_all.Goals as goal
 
 pub loop-at-preserved : goal.loop-at-preserved
 loop-at-preserved g c =
-    let more = c.read_some-more in
-    let part = take more.result.length (drop c.loop-at.at more.new.buffer) in (
-      omega (arith, more.ensures.within, more.auto.buffer),
+    let e = c.in-Ok.ensures in
+    let new = c.read_some.new in
+    let part = take c.in-Ok.n (drop c.loop-at.at new.buffer) in (
+      omega (arith, e.within, c.read_some.auto.buffer),
       subst
-          (λ (y : List ℕ). Consumes (g.R.Read.remaining c.args.from.now) (g.R.Read.remaining more.new.from) y)
-          (ap (λ (y : List ℕ). y ++ part) (sym more.ensures.before) ∙ sym (take-add c.loop-at.at more.result.length more.new.buffer))
-          (Consumes-trans _ _ _ _ _ c.loop-at.invariant.1 more.ensures.read),
+          (λ (y : List ℕ). Consumes (g.R.Read.remaining c.args.from.now) (g.R.Read.remaining new.from) y)
+          (ap (λ (y : List ℕ). y ++ part) (sym e.before) ∙ sym (take-add c.loop-at.at c.in-Ok.n new.buffer))
+          (Consumes-trans _ _ _ _ _ c.loop-at.invariant.1 e.read),
     )

@@ -1,0 +1,50 @@
+-- `save` meets its contract, by its ways out: refused for what `check` says, refused for a short buffer, or written by `write`.
+use Rattle.std.proofs.Common.{refl, ◌∙◌, ap, length}
+use lib.Seq.{sets}
+use Rattle.ldc.specs.Run.{accepted, short_answer}
+use Rattle.ldc.proofs.Lent.Letters.{letter-none}
+use Rattle.book.specs.Pieces.{lent}
+use Rattle.saved_write.proofs.Kept.{book-kept, book-saved}
+use Rattle.store_save.proofs.Saves.{save-refused, save-kept, save-short, save-written}
+use Rattle.store_save.proofs.save.save.Goals as goal
+
+pub returns-then-checked-ne-ACCEPTED : goal.returns-then-checked-ne-ACCEPTED
+returns-then-checked-ne-ACCEPTED c =
+    let a = c.args in
+    let m = lent a.area.now a.cards.now a.lists.now a.head.now a.memory.now in
+    (save-refused m _ c.check-checked.ensures.number_is a.buffer.now c.if-checked-ne-ACCEPTED.true, c.check-checked.ensures.letter-is)
+
+pub length_of-whole-requires : goal.length_of-whole-requires
+length_of-whole-requires c =
+    let a = c.args in
+    let m = lent a.area.now a.cards.now a.lists.now a.head.now a.memory.now in
+    let kept = save-kept m _ c.check-checked.ensures.number_is c.if-checked-ne-ACCEPTED.false in
+    (book-kept m kept c.memory_long.ensures).counted
+
+pub returns-then-buffer-whole : goal.returns-then-buffer-whole
+returns-then-buffer-whole c =
+    let a = c.args in
+    let m = lent a.area.now a.cards.now a.lists.now a.head.now a.memory.now in
+    let kept = save-kept m _ c.check-checked.ensures.number_is c.if-checked-ne-ACCEPTED.false in
+    let book = book-kept m kept c.memory_long.ensures in
+    let counted = c.length_of-whole.ensures m.lists book.sized ∙ ap length (book-saved m kept) in
+    (save-short m kept a.buffer.now (rw (← counted) c.if-buffer-whole.true), letter-none m short_answer 0 refl refl)
+
+pub write-requires : goal.write-requires
+write-requires c =
+    let a = c.args in
+    let m = lent a.area.now a.cards.now a.lists.now a.head.now a.memory.now in
+    let kept = save-kept m _ c.check-checked.ensures.number_is c.if-checked-ne-ACCEPTED.false in
+    let book = book-kept m kept c.memory_long.ensures in
+    let counted = c.length_of-whole.ensures m.lists book.sized ∙ ap length (book-saved m kept) in
+    (book, rw (book-saved m kept, ← counted) c.if-buffer-whole.false)
+
+pub returns : goal.returns
+returns c =
+    let a = c.args in
+    let m = lent a.area.now a.cards.now a.lists.now a.head.now a.memory.now in
+    let kept = save-kept m _ c.check-checked.ensures.number_is c.if-checked-ne-ACCEPTED.false in
+    let book = book-kept m kept c.memory_long.ensures in
+    let counted = c.length_of-whole.ensures m.lists book.sized ∙ ap length (book-saved m kept) in
+    let written = c.write.ensures ∙ ap (sets a.buffer.now 0) (book-saved m kept) in
+    (save-written m kept a.buffer.now (rw (← counted) c.if-buffer-whole.false) _ counted _ written, letter-none m accepted 0 refl refl)
