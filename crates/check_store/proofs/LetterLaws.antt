@@ -12,6 +12,10 @@ use Rattle.table.proofs.Tests.{cases}
 use Rattle.check_places.specs.Links.{walk_e, walk_f}
 use Rattle.check_places.specs.Parts.{walk_g}
 use Rattle.check_places.proofs.RuleLaws.{rule-E, rule-F, rule-G}
+use native.Mathlib.Omega.{arith}
+use Rattle.wire.specs.Refusal.{rule_letter}
+use Rattle.wire.specs.declared.refusal.Rule.{Rule}
+use Rattle.wire.specs.declared.refusal.Rule.TheVariants.{A, B, C, D, E, F, G}
 use Rattle.check_store.specs.Answer.{Answers}
 use Rattle.check_store.specs.Rest.{rest_letter}
 
@@ -72,6 +76,16 @@ rest-letters m z a b c d =
     (λ e. rw e (letter-E m a b c d (rule-E m z b c ∙ e)))
 
 -- ---- the answer
+
+-- A rule has a letter.
+pub has_letter : (rule : Rule) → rule_letter rule ≡ 0 → ⊥
+has_letter A h = omega arith
+has_letter B h = omega arith
+has_letter C h = omega arith
+has_letter D h = omega arith
+has_letter E h = omega arith
+has_letter F h = omega arith
+has_letter G h = omega arith
 
 module _ (m : Lent) where
   pub answer-1 : sizes_good m ≡ false → Answers m 1 0

@@ -5,10 +5,11 @@
 #![tactic(auto)]
 
 ghost use Rattle.std.specs.Prelude.{◌≡◌, true, ◌≤◌, length};
-ghost use Rattle.ldc.specs.Lent.{sizes_good, first_broken};
 ghost use Rattle.ldc.specs.Layout.{most_places};
+ghost use Rattle.ldc.specs.Lent.{sizes_good, first_broken};
 ghost use Rattle.check_store.specs.Answer.{Answers};
-ghost use Rattle.check_store.specs.Rest.{rest_letter};
+ghost use Rattle.wire.specs.Refusal.{number_of, letter_in};
+ghost use Rattle.check_store.specs.Rest.{broken_letter, rest_letter};
 ghost use Rattle.check_walk.specs.Links.{Walkable};
 ghost use Rattle.check_places.specs.Links.{walk_c};
 ghost use Rattle.book.specs.Pieces.{lent, before};
@@ -21,51 +22,43 @@ use check_links::rule_e;
 use check_places::{rule_b, rule_c, rule_f};
 use table::limits::PlaceBytes;
 use table::valid;
-use wire::results;
+use wire::refusal::{Refusal, Rule};
 
-mod letters;
 mod rule_a;
 mod rule_g;
 
-// As many places are few.
+// As many places are few: a check of them takes no room for as many keys as the largest store has places.
 const FEW_PLACES: usize = 256;
 
-// What a check answers: accepted, wrong sizes or unsound, and with the last the letter of the first broken rule.
-#[derive(Clone, Copy)]
-pub struct Checked {
-    pub number: u64,
-    pub letter: u64,
-}
-
-// The letter of the first broken one of rules E, F and G, 0 if none is: the quick yes, or the rules themselves.
-fn rest_letter(
+// Are rules E, F and G kept? If not, the first broken one of them: the quick yes, or the rules themselves.
+fn first_of_rest(
     area: &[u8],
     cards: &[Row],
     lists: &[u16],
     head: &HeadWords,
     ends: &[u64],
     marks: &mut [u8],
-) -> u64
+) -> Result<(), Rule>
     requires { (Walkable area.now cards.now lists.now head.now ends.now × (walk_c area.now cards.now ≡ true))
         × (length marks.old ≡ length cards.now) }
-    ensures { result ≡ rest_letter area.now cards.now lists.now head.now }
+    ensures { broken_letter result ≡ rest_letter area.now cards.now lists.now head.now }
 {
     if check_quick::rest_kept(area, cards, lists, head, ends, marks) {
-        return letters::NONE;
+        return Ok(());
     }
     if !rule_e::kept(area, cards, lists, head, ends, marks) {
-        return letters::E;
+        return Err(Rule::E);
     }
     if !rule_f::kept(cards, marks) {
-        return letters::F;
+        return Err(Rule::F);
     }
     if !rule_g::kept(area, cards, lists, head, ends) {
-        return letters::G;
+        return Err(Rule::G);
     }
-    letters::NONE
+    Ok(())
 }
 
-// The letter of the first broken rule, 0 if none is broken. Nothing is looked at that an earlier rule forbids. In `ends` there is room to
+// Are all rules kept? If not, the first broken one. Nothing is looked at that an earlier rule forbids. In `ends` there is room to
 // note a key for each place, in `marks` to mark it.
 fn first_broken(
     area: &[u8],
@@ -75,38 +68,39 @@ fn first_broken(
     memory: &PlaceBytes,
     ends: &mut [u64],
     marks: &mut [u8],
-) -> u64
+) -> Result<(), Rule>
     requires { (sizes_good (lent area.now cards.now lists.now head.now memory.now) ≡ true)
         × ((length cards.now ≤ length ends.old) × (length marks.old ≡ length cards.now)) }
-    ensures { result ≡ first_broken (before area.now cards.now lists.now head.now memory.now) }
+    ensures { broken_letter result ≡ first_broken (before area.now cards.now lists.now head.now memory.now) }
 {
     if !rule_a::kept(head, cards.len()) {
-        return letters::A;
+        return Err(Rule::A);
     }
     if !rule_b::kept(cards, lists, head, marks) {
-        return letters::B;
+        return Err(Rule::B);
     }
     if !rule_c::kept(area, cards, ends) {
-        return letters::C;
+        return Err(Rule::C);
     }
     // Rule D.
     if !valid::is_memory(&memory[..]) {
-        return letters::D;
+        return Err(Rule::D);
     }
-    rest_letter(area, cards, lists, head, ends, marks)
+    first_of_rest(area, cards, lists, head, ends, marks)
 }
 
-// The same for a store of at most `ROOM` places: it takes room for as many keys and marks.
+// The same for a store of at most `ROOM` places: no more room is taken than so many need.
 fn first_within<const ROOM: usize>(
     area: &[u8],
     cards: &[Row],
     lists: &[u16],
     head: &HeadWords,
     memory: &PlaceBytes,
-) -> u64
-    requires { (sizes_good (lent area.now cards.now lists.now head.now memory.now) ≡ true)
-        × ((length cards.now ≤ ROOM) × (ROOM ≤ most_places)) }
-    ensures { result ≡ first_broken (before area.now cards.now lists.now head.now memory.now) }
+) -> Result<(), Rule>
+    requires sized { sizes_good (lent area.now cards.now lists.now head.now memory.now) ≡ true }
+    requires room { length cards.now ≤ ROOM }
+    requires most { ROOM ≤ most_places }
+    ensures { broken_letter result ≡ first_broken (before area.now cards.now lists.now head.now memory.now) }
 {
     let mut ends = [0u64; ROOM];
     let mut marks = [0u8; ROOM];
@@ -122,16 +116,16 @@ fn first_within<const ROOM: usize>(
     )
 }
 
-// The same, by the size: a store of few places takes no room for as many keys as the largest one has places.
-fn first_letter(
+// The same, by the size.
+fn first_of_all(
     area: &[u8],
     cards: &[Row],
     lists: &[u16],
     head: &HeadWords,
     memory: &PlaceBytes,
-) -> u64
+) -> Result<(), Rule>
     requires { sizes_good (lent area.now cards.now lists.now head.now memory.now) ≡ true }
-    ensures { result ≡ first_broken (before area.now cards.now lists.now head.now memory.now) }
+    ensures { broken_letter result ≡ first_broken (before area.now cards.now lists.now head.now memory.now) }
 {
     if cards.len() <= FEW_PLACES {
         return first_within::<FEW_PLACES>(area, cards, lists, head, memory);
@@ -146,27 +140,15 @@ pub fn check(
     lists: &[u16],
     head: &HeadWords,
     memory: &PlaceBytes,
-) -> Checked
+) -> Result<(), Refusal>
     ensures { Answers
         (before area.now cards.now lists.now head.now memory.now)
-        result.number
-        result.letter }
+        (number_of result)
+        (letter_in result) }
 {
     if !sizes::sizes(area.len(), cards.len(), lists.len()) {
-        return Checked {
-            number: results::WRONG_SIZES,
-            letter: letters::NONE,
-        };
+        return Err(Refusal::WrongSizes);
     }
-    let letter = first_letter(area, cards, lists, head, memory);
-    if letter == letters::NONE {
-        return Checked {
-            number: results::ACCEPTED,
-            letter: letters::NONE,
-        };
-    }
-    Checked {
-        number: results::UNSOUND,
-        letter,
-    }
+    first_of_all(area, cards, lists, head, memory)?;
+    Ok(())
 }

@@ -6,18 +6,13 @@ ghost use Rattle.std.specs.Prelude.{◌≤◌, ◌≡◌, true, length};
 ghost use Rattle.book.specs.Pieces.{after, before};
 ghost use Rattle.history_lists.specs.Pieces.{pieces_before, pieces_after, ready, AllReady};
 ghost use Rattle.history_lists.specs.Performs.{RanOne, Ran, Performs};
+ghost use Rattle.std.specs.Result.{result_unwrap_or};
+ghost use Rattle.wire.specs.Refusal.{number_of};
 
 use book::head::HeadWords;
 use book::row::Row;
 use table::limits::PlaceBytes;
-use wire::results;
-
-// What a history returns: the number of making the store, and how many runs were performed.
-#[derive(Clone, Copy)]
-pub struct Done {
-    pub number: u64,
-    pub runs: usize,
-}
+use wire::refusal::Refusal;
 
 // Performs run k, and notes how many requests it served.
 fn run_one(
@@ -50,7 +45,7 @@ fn run_one(
         &input[from..end],
         &mut answers[first..stop],
     );
-    served[k] = done.served;
+    served[k] = store_run::Ran::of(&done).served;
 }
 
 // Performs the runs from `from` on, up to n in all, one after the other.
@@ -82,7 +77,7 @@ pub fn run_all(
 // Makes a store with this threshold over whatever is lent, and performs one run for each k: its request list is the part of `input` from the end
 // of the list before to ends[k], its answer buffer the part of `answers` from the stop of the buffer before to stops[k], and how many requests it
 // served is noted in served[k]. Where an end or a stop is missing, falls, or lies beyond the bytes, or there is no room for the number, the
-// history ends. Demand 3 holds of what memory and answers then hold.
+// history ends. It gives how many runs were performed. Demand 3 holds of what memory and answers then hold.
 pub fn perform(
     area: &mut [u8],
     cards: &mut [Row],
@@ -95,18 +90,15 @@ pub fn perform(
     answers: &mut [u8],
     stops: &[usize],
     served: &mut [usize],
-) -> Done
+) -> Result<usize, Refusal>
     ensures { Performs (before area.old cards.old lists.old head.old memory.old) threshold (pieces_before input ends answers stops served)
-        result.number result.runs
+        (number_of result) (result_unwrap_or result 0)
         (after area cards lists head memory) (pieces_after input ends answers stops served) }
 {
-    let number = store_make::make(area, cards, lists, head, memory, threshold);
-    if number != results::ACCEPTED {
-        return Done { number, runs: 0 };
-    }
+    store_make::make(area, cards, lists, head, memory, threshold)?;
     let n = history_lists::runs(input.len(), ends, answers.len(), stops, served.len());
     run_all(
         area, cards, lists, head, memory, input, ends, answers, stops, served, 0, n,
     );
-    Done { number, runs: n }
+    Ok(n)
 }

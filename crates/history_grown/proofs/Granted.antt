@@ -108,3 +108,10 @@ within m buffer working t first g =
       area = omega (arith, g.all, z.cards, z.area);
       lists = omega (arith, g.all, z.cards, z.lists);
     }
+
+-- What number 0 says.
+pub fits-judged : (h : Handed) (t first number : ℕ) → number ≡ grown_number h t first → number ≡ 0
+    → Granted h.lent h.buffer h.working t first × Within h.lent first
+fits-judged h t first number e z =
+    let g = granted h t first (sym e ∙ z) in
+    (g, within h.lent h.buffer h.working t first g)

@@ -8,16 +8,17 @@ ghost use Rattle.book.specs.Pieces.{after, before};
 ghost use Rattle.saved_book.specs.Calls.{longest_book};
 ghost use Rattle.history_lists.specs.Pieces.{pieces_before, pieces_after, AllReady};
 ghost use Rattle.history_grown.specs.Grown.{Handed, handed, grown_number, RanSaved, PerformsGrown};
+ghost use Rattle.std.specs.Result.{result_unwrap_or};
+ghost use Rattle.wire.specs.Refusal.{number_of};
 
 use book::head::HeadWords;
 use book::limits::{FEWEST_PLACES, LEAST_THRESHOLD, LEVELS, LINK_LIMIT};
 use book::row::Row;
 use book::sizes;
-use history::Done;
 use saved_form::layout;
 use store_save::{open, save};
 use table::limits::{ENTRY_LIMIT, PLACE_SIZE, PlaceBytes, TABLE_LIMIT};
-use wire::results;
+use wire::refusal::Refusal;
 
 // A buffer of so many bytes has room for every saved book of so many places.
 fn longest(places: usize) -> usize
@@ -29,18 +30,8 @@ fn longest(places: usize) -> usize
     layout::CARDS + (cards + (lists + (layout::NUMBER + TABLE_LIMIT * ENTRY_LIMIT)))
 }
 
-// The lesser of two.
-fn lesser(a: usize, b: usize) -> usize
-    ensures { result ≡ min a b }
-{
-    if a < b {
-        return a;
-    }
-    b
-}
-
-// The number of the call. Of the pieces only the sizes matter.
-fn judge(
+// Is the call refused? Of the pieces only the sizes matter.
+fn admit(
     area: usize,
     cards: usize,
     lists: usize,
@@ -48,22 +39,22 @@ fn judge(
     first: usize,
     buffer: usize,
     working: usize,
-) -> u64
+) -> Result<(), Refusal>
     ensures { (h : Handed) → length h.lent.area ≡ area → length h.lent.cards ≡ cards → length h.lent.lists ≡ lists
-        → length h.buffer ≡ buffer → length h.working ≡ working → result ≡ grown_number h threshold first }
+        → length h.buffer ≡ buffer → length h.working ≡ working → number_of result ≡ grown_number h threshold first }
 {
     if !(sizes::sizes(area, cards, lists)
         & ((working == cards) & ((FEWEST_PLACES <= first) & (first <= cards))))
     {
-        return results::WRONG_SIZES;
+        return Err(Refusal::WrongSizes);
     }
     if !((LEAST_THRESHOLD <= threshold) & (threshold <= LINK_LIMIT as u64)) {
-        return results::BAD_THRESHOLD;
+        return Err(Refusal::BadThreshold);
     }
     if buffer < longest(first) {
-        return results::SHORT_ANSWER;
+        return Err(Refusal::ShortAnswer);
     }
-    results::ACCEPTED
+    Ok(())
 }
 
 // Makes a store, performs the first n runs on it, and saves it. Returns the saved length.
@@ -83,15 +74,16 @@ fn run_and_save(
     buffer: &mut [u8],
 ) -> usize
     requires { AllReady (length input.now) ends.now (length answers.old) stops.now (length served.old) n }
-    ensures { RanSaved (before area.old cards.old lists.old head.old memory.old) threshold (pieces_before input ends answers stops served) n buffer.old result
+    ensures { RanSaved (before area.old cards.old lists.old head.old memory.old) threshold (pieces_before input ends answers stops served) n
+        buffer.old result
         (after area cards lists head memory) (pieces_after input ends answers stops served) buffer.new }
 {
-    store_make::make(area, cards, lists, head, memory, threshold);
+    // `admit` has asked all that these calls ask: none of them is refused.
+    let _ = store_make::make(area, cards, lists, head, memory, threshold);
     history::run_all(
         area, cards, lists, head, memory, input, ends, answers, stops, served, 0, n,
     );
-    let saved = save::save(area, cards, lists, head, memory, buffer);
-    saved.written
+    save::save(area, cards, lists, head, memory, buffer).unwrap_or(0)
 }
 
 // Makes a store with this threshold over the first places of what is lent, so many as `first` says, and performs runs on it, as many as `earlier`
@@ -115,13 +107,13 @@ pub fn perform_grown(
     answers: &mut [u8],
     stops: &[usize],
     served: &mut [usize],
-) -> Done
+) -> Result<usize, Refusal>
     ensures { PerformsGrown
         (handed (before area.old cards.old lists.old head.old memory.old) (pieces_before input ends answers stops served) buffer.old working.old)
-        threshold first earlier result.number result.runs
+        threshold first earlier (number_of result) (result_unwrap_or result 0)
         (handed (after area cards lists head memory) (pieces_after input ends answers stops served) buffer.new working.new) }
 {
-    let number = judge(
+    admit(
         area.len(),
         cards.len(),
         lists.len(),
@@ -129,12 +121,9 @@ pub fn perform_grown(
         first,
         buffer.len(),
         working.len(),
-    );
-    if number != results::ACCEPTED {
-        return Done { number, runs: 0 };
-    }
+    )?;
     let n = history_lists::runs(input.len(), ends, answers.len(), stops, served.len());
-    let mid = lesser(earlier, n);
+    let mid = earlier.min(n);
     let written = run_and_save(
         &mut area[..first * PLACE_SIZE],
         &mut cards[..first],
@@ -150,7 +139,8 @@ pub fn perform_grown(
         mid,
         buffer,
     );
-    open::open(
+    // Nor is this one.
+    let _ = open::open(
         area,
         cards,
         lists,
@@ -162,5 +152,5 @@ pub fn perform_grown(
     history::run_all(
         area, cards, lists, head, memory, input, ends, answers, stops, served, mid, n,
     );
-    Done { number, runs: n }
+    Ok(n)
 }

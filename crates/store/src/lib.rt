@@ -15,7 +15,9 @@ ghost use Rattle.store_save.specs.Left.{book_after};
 
 use book::head::HeadWords;
 use book::row::Row;
+use store_run::Ran;
 use table::limits::PlaceBytes;
+use wire::refusal;
 
 // Makes a new store in any lent memory: 0, or 1 for sizes, or 2 for a threshold outside 1 to 8; refused, nothing is changed.
 #[unsafe(no_mangle)]
@@ -29,7 +31,7 @@ pub extern "C" fn zilgwern_make(
 ) -> u64
     ensures { made result (after area cards lists head memory) ≡ make (before area.old cards.old lists.old head.old memory.old) threshold }
 {
-    store_make::make(area, cards, lists, head, memory, threshold)
+    refusal::number_of(&store_make::make(area, cards, lists, head, memory, threshold))
 }
 
 // Checks whatever is lent: 0 for a sound store, 1 for sizes, 5 where a rule is broken; the letter of the first one is then written in ASCII (else 0).
@@ -45,8 +47,8 @@ pub extern "C" fn zilgwern_check(
     ensures { Answers (before area.now cards.now lists.now head.now memory.now) result letter.new }
 {
     let checked = check_store::check(area, cards, lists, head, memory);
-    *letter = checked.letter;
-    checked.number
+    *letter = refusal::letter_of(&checked);
+    refusal::number_of(&checked)
 }
 
 // Runs a list of requests over whatever is lent: 0, or refused by 1, 3, 4 or 5, nothing changed. The outcome has three numbers: the letter of the
@@ -68,8 +70,13 @@ pub extern "C" fn zilgwern_run(
         × (get_or outcome.new 0 0 ≡ letter_of (before area.old cards.old lists.old head.old memory.old) result) }
 {
     let done = store_run::run(area, cards, lists, head, memory, list, answer);
-    *outcome = [done.letter, done.served as u64, done.written as u64];
-    done.number
+    let ran = Ran::of(&done);
+    *outcome = [
+        refusal::letter_of(&done),
+        ran.served as u64,
+        ran.written as u64,
+    ];
+    refusal::number_of(&done)
 }
 
 // Writes the book of a sound store as bytes to the front of the buffer: 0, or refused by 1, 5 or 3, nothing written. The outcome has two numbers: the
@@ -89,8 +96,9 @@ pub extern "C" fn zilgwern_save(
         × (get_or outcome.new 0 0 ≡ letter_of (before area.now cards.now lists.now head.now memory.now) result) }
 {
     let saved = store_save::save::save(area, cards, lists, head, memory, buffer);
-    *outcome = [saved.letter, saved.written as u64];
-    saved.number
+    let written = saved.unwrap_or(0);
+    *outcome = [refusal::letter_of(&saved), written as u64];
+    refusal::number_of(&saved)
 }
 
 // Opens a saved book over an area, which is only read: 0, or refused by 1, 21, 22 or 5, nothing of the book changed. The letter is that of the first
@@ -113,6 +121,6 @@ pub extern "C" fn zilgwern_open(
         × (working.new ≡ working_after result working.old area.now saved.now)) }
 {
     let opened = store_save::open::open(area, cards, lists, head, memory, saved, working);
-    *letter = opened.letter;
-    opened.number
+    *letter = refusal::letter_of(&opened);
+    refusal::number_of(&opened)
 }

@@ -4,7 +4,8 @@
 ghost use Rattle.std.specs.Prelude.{◌≡◌};
 ghost use Rattle.ldc.specs.Run.{make};
 ghost use Rattle.book.specs.Made.{made, all_free};
-ghost use Rattle.book.specs.Pieces.{lent, after, before};
+ghost use Rattle.wire.specs.Refusal.{number_of};
+ghost use Rattle.book.specs.Pieces.{after, before};
 
 use book::head::HeadWords;
 use book::limits::{LEAST_THRESHOLD, LINK_LIMIT};
@@ -12,7 +13,7 @@ use book::row::Row;
 use book::{row, sizes};
 use table::limits::PlaceBytes;
 use table_builder::place;
-use wire::results;
+use wire::refusal::Refusal;
 
 // Makes all places free.
 fn free_all(cards: &mut [Row])
@@ -31,19 +32,19 @@ pub fn make(
     head: &mut HeadWords,
     memory: &mut PlaceBytes,
     threshold: u64,
-) -> u64
-    ensures { made result (after area cards lists head memory)
+) -> Result<(), Refusal>
+    ensures { made (number_of result) (after area cards lists head memory)
         ≡ make (before area.old cards.old lists.old head.old memory.old) threshold }
 {
     if !sizes::sizes(area.len(), cards.len(), lists.len()) {
-        return results::WRONG_SIZES;
+        return Err(Refusal::WrongSizes);
     }
     if !((LEAST_THRESHOLD <= threshold) & (threshold <= LINK_LIMIT as u64)) {
-        return results::BAD_THRESHOLD;
+        return Err(Refusal::BadThreshold);
     }
     free_all(cards);
     lists.fill(0);
     *head = [threshold, 0, 0, 0, 0, 0, 0, 0, 0, 0];
     place::clear(memory);
-    results::ACCEPTED
+    Ok(())
 }

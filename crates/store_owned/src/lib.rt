@@ -8,27 +8,30 @@ ghost use Rattle.book.specs.Pieces.{after, before};
 ghost use Rattle.serve_list.specs.Ran.{ran};
 ghost use Rattle.store_cards.specs.Card.{rows_of};
 ghost use Rattle.store_structs.specs.Over.{make_over, run_over, Left, before_with, after_with};
+ghost use Rattle.wire.specs.Refusal.{number_of, letter_in};
+ghost use Rattle.store_run.specs.Ran.{ran_in};
 
 use book::head::HeadWords;
 use book::row::Row;
 use store_cards::Card;
 use store_run::Ran;
 use table::limits::PlaceBytes;
+use wire::refusal::Refusal;
 
 // So many places, and cards of them.
 pub const PLACES: usize = 32;
 
-// What making a store gives: the number, and the cards.
+// What making a store gives: whether it was refused, and the cards.
 #[derive(Clone, Copy)]
 pub struct Started {
-    pub number: u64,
+    pub made: Result<(), Refusal>,
     pub cards: [Card; PLACES],
 }
 
 // What a run gives: what it returns, and the cards.
 #[derive(Clone, Copy)]
 pub struct Continued {
-    pub ran: Ran,
+    pub ran: Result<Ran, Refusal>,
     pub cards: [Card; PLACES],
 }
 
@@ -42,16 +45,13 @@ pub fn start(
     memory: &mut PlaceBytes,
     threshold: u64,
 ) -> Started
-    ensures { (made result.number (after_with area result.cards lists head memory)
+    ensures { (made (number_of result.made) (after_with area result.cards lists head memory)
         ≡ make_over rows.old (before_with area cards lists head memory) threshold)
-        × Left result.number rows.old rows.new cards result.cards }
+        × Left (number_of result.made) rows.old rows.new cards result.cards }
 {
     let mut mine = cards;
-    let number = store_structs::make(area, &mut mine, rows, lists, head, memory, threshold);
-    Started {
-        number,
-        cards: mine,
-    }
+    let made = store_structs::make(area, &mut mine, rows, lists, head, memory, threshold);
+    Started { made, cards: mine }
 }
 
 // Runs a list of requests. Refused, it changes nothing of the store; with 1, 3 and 4 no working row either, and with 5 they become the cards' words.
@@ -65,10 +65,11 @@ pub fn serve(
     list: &[u8],
     answer: &mut [u8],
 ) -> Continued
-    ensures { (ran result.ran.number result.ran.served result.ran.written (after_with area result.cards lists head memory) answer.new
+    ensures { (ran (number_of result.ran) (ran_in result.ran).served (ran_in result.ran).written
+        (after_with area result.cards lists head memory) answer.new
         ≡ run_over rows.old (before_with area cards lists head memory) list.now answer.old)
-        × ((result.ran.letter ≡ letter_of (before_with area cards lists head memory) result.ran.number)
-        × Left result.ran.number rows.old rows.new cards result.cards) }
+        × ((letter_in result.ran ≡ letter_of (before_with area cards lists head memory) (number_of result.ran))
+        × Left (number_of result.ran) rows.old rows.new cards result.cards) }
 {
     let mut mine = cards;
     let ran = store_structs::run(area, &mut mine, rows, lists, head, memory, list, answer);
@@ -88,9 +89,9 @@ pub fn go_on(
     answer: &mut [u8],
 ) -> Continued
     requires { rows.old ≡ rows_of cards }
-    ensures { ((ran result.ran.number result.ran.served result.ran.written (after area rows lists head memory) answer.new
+    ensures { ((ran (number_of result.ran) (ran_in result.ran).served (ran_in result.ran).written (after area rows lists head memory) answer.new
         ≡ run (before area.old rows.old lists.old head.old memory.old) list.now answer.old)
-        × (result.ran.letter ≡ letter_of (before area.old rows.old lists.old head.old memory.old) result.ran.number))
+        × (letter_in result.ran ≡ letter_of (before area.old rows.old lists.old head.old memory.old) (number_of result.ran)))
         × (rows.new ≡ rows_of result.cards) }
 {
     serve(area, cards, rows, lists, head, memory, list, answer)

@@ -5,6 +5,7 @@ ghost use Rattle.ldc.specs.Run.{letter_of};
 ghost use Rattle.book.specs.Pieces.{before};
 ghost use Rattle.saved_book.specs.Opened.{opened_over};
 ghost use Rattle.saved_book.specs.Calls.{opening, open_book, open_with, working_after};
+ghost use Rattle.wire.specs.Refusal.{number_of, letter_in};
 ghost use Rattle.store_save.specs.Left.{opened_into, Beside, book_in, book_out, book_after};
 
 use book::head::HeadWords;
@@ -12,14 +13,7 @@ use book::row::Row;
 use book::{head, limits, sizes};
 use saved_form::form;
 use table::limits::{PLACE_SIZE, PlaceBytes};
-use wire::results;
-
-// What opening returns. The letter, in ASCII, is that of the first broken rule of the store as opened with number 5, and 0 otherwise.
-#[derive(Clone, Copy)]
-pub struct Opened {
-    pub number: u64,
-    pub letter: u64,
-}
+use wire::refusal::Refusal;
 
 // Reads the book into the pieces lent and judges it there: with 1, 21 and 22 nothing changes, with 0 and 5 they hold the book as opened.
 fn open_into(
@@ -29,40 +23,28 @@ fn open_into(
     head: &mut HeadWords,
     memory: &mut PlaceBytes,
     bytes: &[u8],
-) -> Opened
-    ensures { (result.number ≡ (open_book (before area.now rows.old lists.old head.old memory.old) bytes.now).number)
-        × ((result.letter ≡ letter_of (opened_over area.now bytes.now) result.number)
-        × (book_after area rows lists head memory ≡ opened_into result.number (before area.now rows.old lists.old head.old memory.old) bytes.now)) }
+) -> Result<(), Refusal>
+    ensures { (number_of result ≡ (open_book (before area.now rows.old lists.old head.old memory.old) bytes.now).number)
+        × ((letter_in result ≡ letter_of (opened_over area.now bytes.now) (number_of result))
+        × (book_after area rows lists head memory
+        ≡ opened_into (number_of result) (before area.now rows.old lists.old head.old memory.old) bytes.now)) }
 {
     if !sizes::sizes(area.len(), rows.len(), lists.len()) {
-        return Opened {
-            number: results::WRONG_SIZES,
-            letter: 0,
-        };
+        return Err(Refusal::WrongSizes);
     }
     let Some(parts) = form::form_of(bytes) else {
-        return Opened {
-            number: results::NOT_A_BOOK,
-            letter: 0,
-        };
+        return Err(Refusal::NotABook);
     };
     let places = rows.len();
     if places < parts.places {
-        return Opened {
-            number: results::FEWER_PLACES,
-            letter: 0,
-        };
+        return Err(Refusal::FewerPlaces);
     }
     saved_read::rows::read_rows(bytes, rows);
     saved_read::summaries::sum_rows(area, rows);
     saved_read::lists::read_lists(bytes, parts.lists, places, lists);
     *head = saved_read::head::read_head(bytes, parts.lists);
     saved_read::memory::read_memory(bytes, parts.memory, memory);
-    let checked = check_store::check(area, rows, lists, head, memory);
-    Opened {
-        number: checked.number,
-        letter: checked.letter,
-    }
+    check_store::check(area, rows, lists, head, memory)
 }
 
 // Opens a saved book beside so many cards, which are not seen here: working rows take their part. The book is read into these and into the three
@@ -78,26 +60,20 @@ fn open_within(
     items: &mut [u16],
     words: &mut HeadWords,
     table: &mut PlaceBytes,
-) -> Opened
+) -> Result<(), Refusal>
     requires { level_count * most_places ≤ length items.old }
-    ensures { Beside result.number cards area.now bytes.now (book_in working lists head memory) (book_out working lists head memory)
-        × (result.letter ≡ letter_of (opened_over area.now bytes.now) result.number) }
+    ensures { Beside (number_of result) cards area.now bytes.now (book_in working lists head memory) (book_out working lists head memory)
+        × (letter_in result ≡ letter_of (opened_over area.now bytes.now) (number_of result)) }
 {
     if !((working.len() == cards) & sizes::sizes(area.len(), cards, lists.len())) {
-        return Opened {
-            number: results::WRONG_SIZES,
-            letter: 0,
-        };
+        return Err(Refusal::WrongSizes);
     }
     let n = lists.len();
-    let opened = open_into(area, working, &mut items[..n], words, table, bytes);
-    if opened.number != results::ACCEPTED {
-        return opened;
-    }
+    open_into(area, working, &mut items[..n], words, table, bytes)?;
     lists.copy_from_slice(&items[..n]);
     *head = *words;
     *memory = *table;
-    opened
+    Ok(())
 }
 
 // The same with working pieces of its own: who calls it lends rows alone, and carries them to the cards with 0.
@@ -109,9 +85,9 @@ pub fn open_beside(
     memory: &mut PlaceBytes,
     bytes: &[u8],
     working: &mut [Row],
-) -> Opened
-    ensures { Beside result.number cards area.now bytes.now (book_in working lists head memory) (book_out working lists head memory)
-        × (result.letter ≡ letter_of (opened_over area.now bytes.now) result.number) }
+) -> Result<(), Refusal>
+    ensures { Beside (number_of result) cards area.now bytes.now (book_in working lists head memory) (book_out working lists head memory)
+        × (letter_in result ≡ letter_of (opened_over area.now bytes.now) (number_of result)) }
 {
     let mut items = [0u16; limits::LEVELS * limits::MOST_PLACES];
     let mut words = [0u64; head::HEAD_WORDS];
@@ -141,16 +117,13 @@ pub fn open(
     memory: &mut PlaceBytes,
     bytes: &[u8],
     working: &mut [Row],
-) -> Opened
-    ensures { (opening result.number (book_after area cards lists head memory)
+) -> Result<(), Refusal>
+    ensures { (opening (number_of result) (book_after area cards lists head memory)
         ≡ open_with working.old (before area.now cards.old lists.old head.old memory.old) bytes.now)
-        × ((result.letter ≡ letter_of (opened_over area.now bytes.now) result.number)
-        × (working.new ≡ working_after result.number working.old area.now bytes.now)) }
+        × ((letter_in result ≡ letter_of (opened_over area.now bytes.now) (number_of result))
+        × (working.new ≡ working_after (number_of result) working.old area.now bytes.now)) }
 {
-    let opened = open_beside(area, cards.len(), lists, head, memory, bytes, working);
-    if opened.number != results::ACCEPTED {
-        return opened;
-    }
+    open_beside(area, cards.len(), lists, head, memory, bytes, working)?;
     cards.copy_from_slice(working);
-    opened
+    Ok(())
 }

@@ -11,15 +11,15 @@ ghost use Rattle.saved_book.specs.Opened.{opened_over};
 ghost use Rattle.saved_book.specs.Calls.{saving, save_book, opening, open_with, working_after};
 ghost use Rattle.store_structs.specs.Over.{before_over};
 ghost use Rattle.store_save_structs.specs.Saved.{save_over, rows_saved, book_after_over};
+ghost use Rattle.std.specs.Result.{result_unwrap_or};
+ghost use Rattle.wire.specs.Refusal.{number_of, letter_in};
 
 use book::head::HeadWords;
 use book::row::Row;
 use store_cards::Card;
-use store_save::open::Opened;
-use store_save::save::Saved;
 use store_save::{open, save};
 use table::limits::PlaceBytes;
-use wire::results;
+use wire::refusal::Refusal;
 
 // Saves from rows that may be written to, which it leaves as they are.
 fn save_rows(
@@ -29,9 +29,10 @@ fn save_rows(
     head: &HeadWords,
     memory: &PlaceBytes,
     buffer: &mut [u8],
-) -> Saved
-    ensures { ((saving result.number result.written buffer.new ≡ save_book (before area.now rows.old lists.now head.now memory.now) buffer.old)
-        × (result.letter ≡ letter_of (before area.now rows.old lists.now head.now memory.now) result.number))
+) -> Result<usize, Refusal>
+    ensures { ((saving (number_of result) (result_unwrap_or result 0) buffer.new
+        ≡ save_book (before area.now rows.old lists.now head.now memory.now) buffer.old)
+        × (letter_in result ≡ letter_of (before area.now rows.old lists.now head.now memory.now) (number_of result)))
         × (rows.new ≡ rows.old) }
 {
     save::save(area, rows, lists, head, memory, buffer)
@@ -47,18 +48,14 @@ pub fn save(
     head: &HeadWords,
     memory: &PlaceBytes,
     buffer: &mut [u8],
-) -> Saved
-    ensures { (saving result.number result.written buffer.new
+) -> Result<usize, Refusal>
+    ensures { (saving (number_of result) (result_unwrap_or result 0) buffer.new
         ≡ save_over rows.old (before_over area.now cards.now lists.now head.now memory.now) buffer.old)
-        × ((result.letter ≡ letter_of (before_over area.now cards.now lists.now head.now memory.now) result.number)
-        × (rows.new ≡ rows_saved result.number rows.old cards.now)) }
+        × ((letter_in result ≡ letter_of (before_over area.now cards.now lists.now head.now memory.now) (number_of result))
+        × (rows.new ≡ rows_saved (number_of result) rows.old cards.now)) }
 {
     if !store_structs::fits(area.len(), cards.len(), rows.len(), lists.len()) {
-        return Saved {
-            number: results::WRONG_SIZES,
-            letter: 0,
-            written: 0,
-        };
+        return Err(Refusal::WrongSizes);
     }
     store_cards::load(cards, rows);
     save_rows(area, rows, lists, head, memory, buffer)
@@ -74,17 +71,14 @@ pub fn open(
     head: &mut HeadWords,
     memory: &mut PlaceBytes,
     bytes: &[u8],
-) -> Opened
-    ensures { (opening result.number (book_after_over area cards lists head memory)
+) -> Result<(), Refusal>
+    ensures { (opening (number_of result) (book_after_over area cards lists head memory)
         ≡ open_with rows.old (before_over area.now cards.old lists.old head.old memory.old) bytes.now)
-        × ((result.letter ≡ letter_of (opened_over area.now bytes.now) result.number)
-        × ((rows.new ≡ working_after result.number rows.old area.now bytes.now)
-        × ((result.number ≡ accepted → ⊥) → cards.new ≡ cards.old))) }
+        × ((letter_in result ≡ letter_of (opened_over area.now bytes.now) (number_of result))
+        × ((rows.new ≡ working_after (number_of result) rows.old area.now bytes.now)
+        × ((number_of result ≡ accepted → ⊥) → cards.new ≡ cards.old))) }
 {
-    let opened = open::open_beside(area, cards.len(), lists, head, memory, bytes, rows);
-    if opened.number != results::ACCEPTED {
-        return opened;
-    }
+    open::open_beside(area, cards.len(), lists, head, memory, bytes, rows)?;
     store_cards::unload(cards, rows);
-    opened
+    Ok(())
 }

@@ -14,15 +14,16 @@ ghost use Rattle.book.specs.Pieces.{after, before};
 ghost use Rattle.check_store.specs.Answer.{Answers};
 ghost use Rattle.serve_list.specs.Ran.{ran};
 ghost use Rattle.store_structs.specs.Over.{as_many, make_over, check_over, run_over, early_over, rows_after, Left, before_over, after_over};
+ghost use Rattle.wire.specs.Refusal.{number_of, letter_in};
+ghost use Rattle.store_run.specs.Ran.{ran_in};
 
 use book::head::HeadWords;
 use book::row::Row;
 use book::sizes;
-use check_store::Checked;
 use store_cards::Card;
 use store_run::Ran;
 use table::limits::PlaceBytes;
-use wire::results;
+use wire::refusal::Refusal;
 
 // Makes a new store of so many cards in rows, or refuses with nothing changed.
 fn make_rows(
@@ -33,14 +34,14 @@ fn make_rows(
     head: &mut HeadWords,
     memory: &mut PlaceBytes,
     threshold: u64,
-) -> u64
-    ensures { made result (after area rows lists head memory)
+) -> Result<(), Refusal>
+    ensures { made (number_of result) (after area rows lists head memory)
         ≡ cond (eqb (length rows.old) cards)
         (make (before area.old rows.old lists.old head.old memory.old) threshold)
         (made wrong_sizes (before area.old rows.old lists.old head.old memory.old)) }
 {
     if rows.len() != cards {
-        return results::WRONG_SIZES;
+        return Err(Refusal::WrongSizes);
     }
     store_make::make(area, rows, lists, head, memory, threshold)
 }
@@ -54,17 +55,14 @@ pub fn make(
     head: &mut HeadWords,
     memory: &mut PlaceBytes,
     threshold: u64,
-) -> u64
-    ensures { (made result (after_over area cards lists head memory)
+) -> Result<(), Refusal>
+    ensures { (made (number_of result) (after_over area cards lists head memory)
         ≡ make_over rows.old (before_over area.old cards.old lists.old head.old memory.old) threshold)
-        × Left result rows.old rows.new cards.old cards.new }
+        × Left (number_of result) rows.old rows.new cards.old cards.new }
 {
-    let number = make_rows(area, cards.len(), rows, lists, head, memory, threshold);
-    if number != results::ACCEPTED {
-        return number;
-    }
+    make_rows(area, cards.len(), rows, lists, head, memory, threshold)?;
     store_cards::unload(cards, rows);
-    number
+    Ok(())
 }
 
 // Number 1: are so many bytes, cards, working rows and list items those of a store, with as many rows as cards?
@@ -83,8 +81,8 @@ fn check_rows(
     lists: &[u16],
     head: &HeadWords,
     memory: &PlaceBytes,
-) -> Checked
-    ensures { Answers (before area.now rows.old lists.now head.now memory.now) result.number result.letter
+) -> Result<(), Refusal>
+    ensures { Answers (before area.now rows.old lists.now head.now memory.now) (number_of result) (letter_in result)
         × (rows.new ≡ rows.old) }
 {
     check_store::check(area, rows, lists, head, memory)
@@ -98,38 +96,36 @@ pub fn check(
     lists: &[u16],
     head: &HeadWords,
     memory: &PlaceBytes,
-) -> Checked
-    ensures { (result.number ≡ check_over rows.old (before_over area.now cards.now lists.now head.now memory.now))
-        × ((result.letter ≡ letter_of (before_over area.now cards.now lists.now head.now memory.now) result.number)
-        × (rows.new ≡ rows_after result.number rows.old cards.now)) }
+) -> Result<(), Refusal>
+    ensures { (number_of result ≡ check_over rows.old (before_over area.now cards.now lists.now head.now memory.now))
+        × ((letter_in result ≡ letter_of (before_over area.now cards.now lists.now head.now memory.now) (number_of result))
+        × (rows.new ≡ rows_after (number_of result) rows.old cards.now)) }
 {
     if !fits(area.len(), cards.len(), rows.len(), lists.len()) {
-        return Checked {
-            number: results::WRONG_SIZES,
-            letter: 0,
-        };
+        return Err(Refusal::WrongSizes);
     }
     store_cards::load(cards, rows);
     check_rows(area, rows, lists, head, memory)
 }
 
-// The number by which a run is refused before anything is carried over: 1, 3 or 4, in this order; 0 where the store is next.
-fn refusal_over(
+// Is a run refused before anything is carried over? By 1, 3 or 4, in this order.
+fn admit_over(
     area: usize,
     cards: usize,
     rows: usize,
     lists: usize,
     answer: usize,
     list: &[u8],
-) -> u64
-    ensures { (m : Lent) (w : List (List ℕ))
+) -> Result<(), Refusal>
+    ensures number { (m : Lent) (w : List (List ℕ))
         → length m.area ≡ area → length m.cards ≡ cards → length w ≡ rows → length m.lists ≡ lists
-        → result ≡ early_over w m answer list.now }
+        → number_of result ≡ early_over w m answer list.now }
+    ensures letter { letter_in result ≡ 0 }
 {
     if rows != cards {
-        return results::WRONG_SIZES;
+        return Err(Refusal::WrongSizes);
     }
-    store_run::refusal(area, cards, lists, answer, list)
+    store_run::admit(area, cards, lists, answer, list)
 }
 
 // Runs a list of requests: refused with 1, 3, 4 or 5, in this order; otherwise served in order. Refused, nothing of the store changes and nothing
@@ -143,33 +139,22 @@ pub fn run(
     memory: &mut PlaceBytes,
     list: &[u8],
     answer: &mut [u8],
-) -> Ran
-    ensures { (ran result.number result.served result.written (after_over area cards lists head memory) answer.new
+) -> Result<Ran, Refusal>
+    ensures { (ran (number_of result) (ran_in result).served (ran_in result).written (after_over area cards lists head memory) answer.new
         ≡ run_over rows.old (before_over area.old cards.old lists.old head.old memory.old) list.now answer.old)
-        × ((result.letter ≡ letter_of (before_over area.old cards.old lists.old head.old memory.old) result.number)
-        × Left result.number rows.old rows.new cards.old cards.new) }
+        × ((letter_in result ≡ letter_of (before_over area.old cards.old lists.old head.old memory.old) (number_of result))
+        × Left (number_of result) rows.old rows.new cards.old cards.new) }
 {
-    let early = refusal_over(
+    admit_over(
         area.len(),
         cards.len(),
         rows.len(),
         lists.len(),
         answer.len(),
         list,
-    );
-    if early != results::ACCEPTED {
-        return Ran {
-            number: early,
-            letter: 0,
-            served: 0,
-            written: 0,
-        };
-    }
+    )?;
     store_cards::load(cards, rows);
-    let done = store_run::run(area, rows, lists, head, memory, list, answer);
-    if done.number != results::ACCEPTED {
-        return done;
-    }
+    let ran = store_run::run(area, rows, lists, head, memory, list, answer)?;
     store_cards::unload(cards, rows);
-    done
+    Ok(ran)
 }

@@ -16,7 +16,12 @@ use Rattle.ldc.specs.Run.{accepted, broken_list, list_limit, split, room_limit, 
 use Rattle.ldc.proofs.Basics.Cases.{maybe}
 use Rattle.ldc.proofs.Stores.Sound.{Sound, Whole}
 use Rattle.ldc.proofs.Serving.Runs.{run-unsplit, run-served}
+use Rattle.std.specs.Prelude.{Result}
+use Rattle.wire.specs.Refusal.{number_of}
+use Rattle.wire.specs.declared.refusal.Refusal.{Refusal}
 use Rattle.serve_list.specs.Ran.{ran, requests_of}
+use Rattle.store_run.specs.Ran.{ran_in}
+use Rattle.store_run.specs.declared.Ran.{Ran}
 use Rattle.survey_deliver.specs.Whole.{served_first, size_of, position_of, Reached, next_of, Next}
 use Rattle.survey_deliver.specs.declared.piece.Progress.{Progress}
 use Rattle.survey_deliver.proofs.Along.{kept, done-few, reached-others, reached-count, reached-bytes}
@@ -49,6 +54,14 @@ pub record Stretch (list : List ℕ) (m : Lent) (from : Progress) (answer part :
   pub room : room_limit ≤ length answer
   pub same : part ≡ drop from.at list
   pub said : ran number n w m' answer' ≡ run m part answer
+
+-- The same by what a run over the code's part of the list ended in.
+pub stretched : (list : List ℕ) (m : Lent) (from : Progress) (answer : List ℕ) (r : Result Ran Refusal) (o : Ran) (m' : Lent) (answer' : List ℕ)
+    → o ≡ ran_in r → Reached list m from → Bytes list → room_limit ≤ length answer
+    → ran (number_of r) (ran_in r).served (ran_in r).written m' answer' ≡ run m (take (length list - from.at) (drop from.at list)) answer
+    → Stretch list m from answer (take (length list - from.at) (drop from.at list)) (number_of r) o.served o.written m' answer'
+stretched list m from answer r o m' answer' e reached bytes room said =
+    record { reached = reached; bytes = bytes; room = room; same = part-rest list from.at; said = rw e said }
 
 module _ {list : List ℕ} {m : Lent} {from : Progress} {answer part : List ℕ} {number n w : ℕ} {m' : Lent} {answer' : List ℕ}
     (st : Stretch list m from answer part number n w m' answer') where

@@ -10,7 +10,9 @@ use book::head::HeadWords;
 use book::row::Row;
 use store_cards::Card;
 use store_owned::PLACES;
+use store_run::Ran;
 use table::limits::PlaceBytes;
+use wire::refusal;
 
 // How far a list is served: so many requests, which take so many of its bytes, and whose answers are so many bytes.
 #[derive(Clone, Copy)]
@@ -50,11 +52,10 @@ pub fn next_piece(
     let at = from.at;
     let rest = &list[at..];
     let turn = store_owned::go_on(area, cards, rows, lists, head, memory, rest, answer);
-    let next = turn.cards;
-    let ran = turn.ran;
+    let ran = Ran::of(&turn.ran);
     NextPiece {
-        number: ran.number,
-        cards: next,
+        number: refusal::number_of(&turn.ran),
+        cards: turn.cards,
         length: ran.written,
         progress: Progress {
             served: from.served + ran.served,

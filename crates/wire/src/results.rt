@@ -36,6 +36,9 @@ pub const BROKEN_LIST: u64 = 4;
 
 pub const UNSOUND: u64 = 5;
 
+// No letter of a rule comes with any number but 5.
+pub const NO_LETTER: u64 = 0;
+
 // Opening: bytes not of the form of a saved book (document 02, note 4).
 pub const NOT_A_BOOK: u64 = 21;
 

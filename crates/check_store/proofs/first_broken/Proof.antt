@@ -91,7 +91,7 @@ returns-4 c =
     (behind-B k.before.before.before)) (c-kept k.before.before.before)
     (sym c.is_memory.ensures ∙ c.if-not-is_memory.true)
 
-rest-letter-requires : tie.Need-rest_letter-requires
+rest-letter-requires : tie.Need-first_of_rest-requires
 rest-letter-requires c κs =
     let k = c in
     let b = behind-B k.before.before.before.before in
@@ -118,7 +118,7 @@ returns-5 c =
     let k = d in
     let s = start-C k.before.before.before.before.before.before.before in
     let memory = sym d.is_memory.ensures ∙ d.if-not-is_memory.false in
-    r.rest_letter.ensures ∙ rest-letters (lent s) s.requires.0 (a-kept (behind-A (behind-B k.before.before.before.before.before.before.before)))
+    r.first_of_rest.ensures ∙ rest-letters (lent s) s.requires.0 (a-kept (behind-A (behind-B k.before.before.before.before.before.before.before)))
     (b-kept (behind-B k.before.before.before.before.before.before.before)) (c-kept k.before.before.before.before.before.before.before) memory
 
 pub first_broken_spec : {M : Type 1} → statement M

@@ -2,6 +2,7 @@
 -- its number.
 use Rattle.std.proofs.Common.{arith, ℕ, ◌+◌, ◌-◌, ◌≤◌, get_or, length, ◌∙◌}
 use Rattle.coding.proofs.Sets.{length_part}
+use Rattle.wire.specs.Refusal.{number_of}
 use Rattle.book.specs.Pieces.{lent}
 use Rattle.history_lists.proofs.Starts.{ready-room, ready-list, ready-buffer}
 use Rattle.history.proofs.One.{ran-one}
@@ -66,6 +67,6 @@ returns c =
     let fits : c.start-first.result + size ≤ length a.answers.now = omega (arith, e.rises, e.within, c.start-first.ensures) in
     let done = c.run-done.new in
     ran-one (lent a.area.now a.cards.now a.lists.now a.head.now a.memory.now) a.input.now a.ends.now a.answers.now a.stops.now a.served.now a.k
-    c.start-from.result c.start-first.result c.start-from.ensures c.start-first.ensures e c.run-done.result.number c.run-done.result.served
-    c.run-done.result.written (lent done.area done.cards done.lists done.head done.memory) done.answer
-    (c.run-done.auto.answer ∙ length_part a.answers.now c.start-first.result size fits) c.run-done.ensures.0
+    c.start-from.result c.start-first.result c.start-from.ensures c.start-first.ensures e (number_of c.run-done.result) c.of.result.served
+    c.of.result.written (lent done.area done.cards done.lists done.head done.memory) done.answer
+    (c.run-done.auto.answer ∙ length_part a.answers.now c.start-first.result size fits) (rw c.of.ensures c.run-done.ensures.0)

@@ -3,6 +3,8 @@ use Rattle.std.proofs.Common.{ℕ, List, ◌≡◌, refl, sym, subst, ◌∙◌}
 use Rattle.ldc.specs.Run.{letter_of}
 use Rattle.book.specs.Pieces.{lent}
 use Rattle.saved_book.specs.Calls.{saving, save_book}
+use Rattle.std.specs.Result.{result_unwrap_or}
+use Rattle.wire.specs.Refusal.{number_of, letter_in}
 use Rattle.store_cards.proofs.Words.{rows-length}
 use Rattle.store_structs.specs.Over.{before_over}
 use Rattle.store_save_structs.proofs.Ways.{save-refused, save-as-many, save-done}
@@ -27,6 +29,6 @@ returns c =
     let z = c.save_rows.new in
     let m = before_over a.area.now a.cards.now a.lists.now a.head.now a.memory.now in
     let fit = sym (c.fits.ensures m a.rows.now refl (rows-length a.cards.now) refl refl) ∙ c.if-not-fits.false in
-    let said = subst (λ (rows : List (List ℕ)). (saving r.number r.written z.buffer ≡ save_book (lent a.area.now rows a.lists.now a.head.now a.memory.now) a.buffer.now)
-    × (r.letter ≡ letter_of (lent a.area.now rows a.lists.now a.head.now a.memory.now) r.number)) c.load.ensures c.save_rows.ensures.0 in
-    save-done a.rows.now a.cards.now m a.buffer.now fit r.number r.letter r.written z.buffer said.0 said.1 z.rows (c.save_rows.ensures.1 ∙ c.load.ensures)
+    let said = subst (λ (rows : List (List ℕ)). (saving (number_of r) (result_unwrap_or r 0) z.buffer ≡ save_book (lent a.area.now rows a.lists.now a.head.now a.memory.now) a.buffer.now)
+    × (letter_in r ≡ letter_of (lent a.area.now rows a.lists.now a.head.now a.memory.now) (number_of r))) c.load.ensures c.save_rows.ensures.0 in
+    save-done a.rows.now a.cards.now m a.buffer.now fit (number_of r) (letter_in r) (result_unwrap_or r 0) z.buffer said.0 said.1 z.rows (c.save_rows.ensures.1 ∙ c.load.ensures)

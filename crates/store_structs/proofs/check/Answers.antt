@@ -2,6 +2,7 @@
 use Rattle.std.proofs.Common.{ℕ, List, ◌≡◌, ◌&&◌, length, Bool, refl, sym, subst, ◌∙◌}
 use Rattle.ldc.specs.Lent.{sizes_good}
 use Rattle.book.specs.Pieces.{lent}
+use Rattle.wire.specs.Refusal.{number_of, letter_in}
 use Rattle.check_store.specs.Answer.{Answers}
 use Rattle.store_cards.specs.Card.{rows_of}
 use Rattle.store_cards.proofs.Words.{rows-length}
@@ -27,5 +28,5 @@ returns c =
     let r = c.check_rows in
     let m = before_over a.area.now a.cards.now a.lists.now a.head.now a.memory.now in
     let fit = sym (c.fits.ensures m a.rows.now refl (rows-length a.cards.now) refl refl) ∙ c.if-not-fits.false in
-    let answers = subst (λ (rows : List (List ℕ)). Answers (lent a.area.now rows a.lists.now a.head.now a.memory.now) r.result.number r.result.letter) c.load.ensures r.ensures.0 in
-    check-judged a.rows.now a.cards.now m fit r.result.number r.result.letter answers r.new.rows (r.ensures.1 ∙ c.load.ensures)
+    let answers = subst (λ (rows : List (List ℕ)). Answers (lent a.area.now rows a.lists.now a.head.now a.memory.now) (number_of r.result) (letter_in r.result)) c.load.ensures r.ensures.0 in
+    check-judged a.rows.now a.cards.now m fit (number_of r.result) (letter_in r.result) answers r.new.rows (r.ensures.1 ∙ c.load.ensures)

@@ -70,5 +70,5 @@ returns c =
     let o =
     judged m a.bytes.now z _ f c.if-places-parts.false _ _ _ _ _
     c.read_rows.ensures c.sum_rows.ensures c.read_lists.ensures c.read_head.ensures c.read_memory.ensures
-    (c.sum_rows.auto.rows ∙ c.read_rows.auto.rows) c.read_lists.auto.lists _ _ c.check-checked.ensures in
+    (c.sum_rows.auto.rows ∙ c.read_rows.auto.rows) c.read_lists.auto.lists _ _ c.check.ensures in
     (o.number_is, (o.letter-is, o.left_is))

@@ -1,9 +1,9 @@
--- `rest_letter` meets its contract: the quick yes, or rule after rule.
+-- `first_of_rest` meets its contract: the quick yes, or rule after rule.
 use mathlib.Core.Path.{sym, ◌∙◌}
 use borrow.Author.Rules.{rules}
 use Rattle.check_store.specs.Rest.{rest_letter}
-use Rattle.check_store.proofs.rest_letter.Statement.{statement}
-use Rattle.check_store.proofs.rest_letter.Tie as tie
+use Rattle.check_store.proofs.first_of_rest.Statement.{statement}
+use Rattle.check_store.proofs.first_of_rest.Tie as tie
 
 rest-kept-requires : tie.Need-rest_kept-requires
 rest-kept-requires c κs = search rules
@@ -65,7 +65,7 @@ returns-5 c =
     let e = f in
     rw (sym e.kept.ensures ∙ e.if-not-kept.false, sym f.kept-2.ensures ∙ g.if-not-kept-2.false, sym c.kept-3.ensures ∙ c.if-not-kept-3.false)
 
-pub rest_letter_spec : {M : Type 1} → statement M
-rest_letter_spec =
+pub first_of_rest_spec : {M : Type 1} → statement M
+first_of_rest_spec =
     tie.close (tie.spec rest-kept-requires same_length returns kept-requires same-length-2 returns-2 kept-requires-2 same-length-3 returns-3
     kept-requires-3 same-length-4 returns-4 same-length-5 returns-5)

@@ -1,4 +1,4 @@
--- `judge` meets its contract: the same tests. Sizes and working rows matter by their numbers only.
+-- `admit` meets its contract: the same tests. Sizes and working rows matter by their numbers only.
 use mathlib.Core.Path.{◌≡◌, sym, ◌∙◌}
 use mathlib.Core.Bool.{Bool, ◌&&◌}
 use native.Mathlib.Omega.{arith}
@@ -11,8 +11,8 @@ use Rattle.ldc.specs.Rules.{threshold_good}
 use Rattle.ldc.specs.Layout.{fewest_places}
 use Rattle.history_grown.specs.Grown.{Handed}
 use Rattle.history_grown.proofs.Granted.{sized, sized_same, number-sizes, number-threshold, number_short, number-zero, few-cards}
-use Rattle.history_grown.proofs.judge.Statement.{statement}
-use Rattle.history_grown.proofs.judge.Tie as tie
+use Rattle.history_grown.proofs.admit.Statement.{statement}
+use Rattle.history_grown.proofs.admit.Tie as tie
 
 sizes-requires : tie.Need-sizes-requires
 sizes-requires c κs = search rules
@@ -68,6 +68,6 @@ returns-4 c h ea ec el eb ew =
     number-zero h a.threshold a.first (sym (tested d.before.before.before.before h ea ec el ew) ∙ d.if-not-sizes-working.false) (e.if-not-threshold.false)
     (omega (arith, c.if-buffer-longest.false, c.longest.ensures, eb))
 
-pub judge_spec : {M : Type 1} → statement M
-judge_spec =
+pub admit_spec : {M : Type 1} → statement M
+admit_spec =
     tie.close (tie.spec sizes-requires returns returns-2 longest-requires returns-3 returns-4)
