@@ -4,6 +4,8 @@ ghost use Rattle.ldc.specs.Run.{room_limit};
 ghost use Rattle.book.specs.Pieces.{lent, after};
 ghost use Rattle.store_cards.specs.Card.{rows_of};
 ghost use Rattle.survey_deliver.specs.Whole.{Reached, Next};
+ghost use Rattle.wire.specs.Refusal.{number_of};
+ghost use Rattle.store_run.specs.Ran.{ran_in};
 
 use super::skip;
 use book::head::HeadWords;
@@ -12,7 +14,7 @@ use store_cards::Card;
 use store_owned::PLACES;
 use store_run::Ran;
 use table::limits::PlaceBytes;
-use wire::refusal;
+use wire::refusal::Refusal;
 
 // How far a list is served: so many requests, which take so many of its bytes, and whose answers are so many bytes.
 #[derive(Clone, Copy)]
@@ -22,12 +24,11 @@ pub struct Progress {
     pub written: usize,
 }
 
-// The next piece: the number of its run, the cards after it, how many bytes it has at the buffer's front, and how far the list is then served.
+// The next piece: what its run gave, whose bytes stand at the buffer's front, the cards after it, and how far the list is then served.
 #[derive(Clone, Copy)]
 pub struct NextPiece {
-    pub number: u64,
+    pub ran: Result<Ran, Refusal>,
     pub cards: [Card; PLACES],
-    pub length: usize,
     pub progress: Progress,
 }
 
@@ -46,7 +47,7 @@ pub fn next_piece(
     requires { Reached list.now (lent area.old rows.old lists.old head.old memory.old) from
         × ((room_limit ≤ length answer.old) × (rows.old ≡ rows_of cards)) }
     ensures { Next list.now from answer.old (after area rows lists head memory) answer.new
-        result.number result.length result.progress
+        (number_of result.ran) (ran_in result.ran).written result.progress
         × (rows.new ≡ rows_of result.cards) }
 {
     let at = from.at;
@@ -54,9 +55,8 @@ pub fn next_piece(
     let turn = store_owned::go_on(area, cards, rows, lists, head, memory, rest, answer);
     let ran = Ran::of(&turn.ran);
     NextPiece {
-        number: refusal::number_of(&turn.ran),
+        ran: turn.ran,
         cards: turn.cards,
-        length: ran.written,
         progress: Progress {
             served: from.served + ran.served,
             at: at + skip::skip(rest, ran.served),

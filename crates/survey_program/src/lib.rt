@@ -1,9 +1,9 @@
 // The program `survey` as a function: a new store of 32 places with threshold 4 runs standard input.
 #![tactic(auto)]
 
-ghost use Rattle.std.specs.Prelude.{◌≡◌, None};
-ghost use Rattle.std.specs.Option.{is_some};
+ghost use Rattle.std.specs.Prelude.{◌≡◌, false};
 ghost use Rattle.std.specs.Io.KnownBytes.{Appends};
+ghost use Rattle.survey_deliver.specs.Ended.{number_told, not_written};
 ghost use Rattle.survey_deliver.specs.Whole.{Told, answers_of};
 
 use book::head::HEAD_WORDS;
@@ -13,7 +13,7 @@ use std::io;
 use std::io::Write;
 use store_owned::PLACES;
 use survey_deliver::deliver;
-use survey_deliver::deliver::Delivered;
+use survey_deliver::deliver::{Delivered, Undelivered};
 use table::limits::PLACE_SIZE;
 use wire::list::LIST_LIMIT;
 
@@ -32,8 +32,8 @@ const INPUT_BYTES: usize = LIST_LIMIT + 1;
 
 // Runs a list over a new store and writes its answers to a writer.
 pub fn survey_list<W: Write>(out: &mut W, list: &[u8]) -> Delivered
-    ensures told { Told list.now result.number result.served result.written (is_some result.failed) }
-    ensures handed_on { result.failed ≡ None → Appends (W.contents out.old) (W.contents out.new) (answers_of list.now) }
+    ensures told { Told list.now (number_told result.ended) result.served result.written (not_written result.ended) }
+    ensures handed_on { not_written result.ended ≡ false → Appends (W.contents out.old) (W.contents out.new) (answers_of list.now) }
 {
     let mut area = [0u8; AREA_BYTES];
     let blank = store_cards::card_of([0u64; ROW_WORDS]);
@@ -70,7 +70,7 @@ pub fn survey(rt: &HostRuntime) {
         Ok(n) => n,
         Err(e) => return fail(rt, "survey: standard input", e.error),
     };
-    if let Some(e) = survey_list(&mut rt.stdout(), &space[..n]).failed {
+    if let Err(Undelivered::NotWritten(e)) = survey_list(&mut rt.stdout(), &space[..n]).ended {
         fail(rt, "survey: standard output", e);
     }
 }

@@ -1,5 +1,6 @@
 -- `next_piece` meets its contract: the run over the rest of the list is a `Stretch`, and with the position that `skip` gives it is the next piece.
-use Rattle.std.proofs.Common.{arith, refl}
+use Rattle.std.proofs.Common.{arith, refl, ap, ◌∙◌, ◌+◌}
+use Rattle.store_run.specs.declared.Ran.{Ran}
 use Rattle.book.specs.Pieces.{lent}
 use Rattle.survey_deliver.proofs.Along.{reached-others}
 use Rattle.survey_deliver.proofs.Stretch.{stretched, stretch-few, stretch-next, stretch-count, stretch-at, stretch-bytes}
@@ -61,15 +62,15 @@ returns c =
     (lent z.area z.rows z.lists z.head z.memory) z.answer c.of-ran.ensures c.requires.0 (λ i. omega (arith, c.type_inv.list i)) c.requires.1.0
     c.go_on-turn.ensures.0.0 in
     let next = stretch-next x c.skip.result c.skip.ensures in
-    rw c.number_of.ensures (
+    let same = c.of-ran.ensures in (
       record {
         numbered = next.numbered;
         left = next.left;
         answered = next.answered;
-        measured = next.measured;
+        measured = rw same at next.measured;
         served = next.served;
         passed = next.passed;
-        handed = next.handed;
+        handed = next.handed ∙ ap (λ (y : Ran). a.from.written + y.written) same;
       },
       c.go_on-turn.ensures.1,
     )
