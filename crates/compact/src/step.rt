@@ -60,7 +60,8 @@ pub fn take_down(
     p: usize,
 ) -> Tidied
     requires { Choosable (given_beside area.now cards.old lists.old head) n p }
-    ensures { DoesBeside (held_beside area.now cards.old lists.old head) (λ s. down_step s n p) (book_left_beside area cards lists result.head) result }
+    ensures { DoesBeside (held_beside area.now cards.old lists.old head) (λ s. down_step s n p)
+        (book_left_beside area cards lists result.head) result }
 {
     let went = down::go_down(area, cards, lists, head, n, p);
     let after = went.head;

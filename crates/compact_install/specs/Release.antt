@@ -58,7 +58,8 @@ pub record Sought (area : List ℕ) (cards : List (List ℕ)) (items : List ℕ)
   pub tabled : Tabled area f
   pub among : (q : ℕ) → row_names f (get_or cards q []) ≡ true → Memᴰ q items
   pub reaches : (q : ℕ) → row_names f (get_or cards q []) ≡ true → least_key (entries (place_of area f)) ≤ span_end (shown_by area cards) q
-  pub starts : (q : ℕ) → row_names f (get_or cards q []) ≡ true → span_start (shown_by area cards) q ≤ greatest_key (entries (place_of area f))
+  pub starts : (q : ℕ) → row_names f (get_or cards q []) ≡ true
+      → span_start (shown_by area cards) q ≤ greatest_key (entries (place_of area f))
 
 -- A level's list to seek all that place p's links name in.
 pub record SoughtAll (area : List ℕ) (cards : List (List ℕ)) (items : List ℕ) (p : ℕ) : Type 0 where

@@ -1,6 +1,7 @@
 -- What a history with an opening in it leaves (document 02, note 4): a store lives over the first places of what is lent, is saved, opened over all
 -- places, and goes on there. Demand 3 of all of it, of what memory and answers hold at the end.
-use Rattle.std.specs.Prelude.{ℕ, ◌*◌, ◌<◌, min, ◌≡◌, List, ◌∷◌, ◌++◌, map, cond, ◌&&◌, leb, ltb, eqb, length, get_or, take, drop}
+use Rattle.std.specs.Prelude.{ℕ, ◌*◌, ◌<◌, min, ◌≡◌}
+use Rattle.std.specs.Prelude.{List, ◌∷◌, ◌++◌, map, cond, ◌&&◌, leb, ltb, eqb, length, get_or, take, drop}
 use Rattle.std.proofs.lemmas.List.Edits.{sets}
 use Rattle.table.specs.Limits.{place_size}
 use Rattle.ldc.specs.Rules.{threshold_good}

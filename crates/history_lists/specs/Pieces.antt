@@ -1,5 +1,6 @@
 -- Request lists and answer buffers as pieces of two byte lists, told by their ends, and the history that can be read off them.
-use Rattle.std.specs.Prelude.{ℕ, zero, suc, ◌+◌, ◌-◌, ◌<◌, ◌≡◌, List, [], ◌∷◌, ◌++◌, Bool, true, false, ◌&&◌, leb, ltb, length, get_or, take, drop}
+use Rattle.std.specs.Prelude.{ℕ, zero, suc, ◌+◌, ◌-◌, ◌<◌, ◌≡◌}
+use Rattle.std.specs.Prelude.{List, [], ◌∷◌, ◌++◌, Bool, true, false, ◌&&◌, leb, ltb, length, get_or, take, drop}
 use Rattle.std.proofs.Math.Option
 use Rattle.ldc.specs.Run.{split}
 use Rattle.book.specs.Pieces.{Words, MutWords}

@@ -1,7 +1,8 @@
 -- Readings (document 02, note 8). A reading is either whole millimetres or a 32-bit float in kilometres; it stands for the millimetre given,
 -- or for every whole millimetre whose exact distance, rounded to the nearest float with ties to even, is that float. The bound is stated
 -- over whole numbers from the float's bits; `specs/Exact.antt` says that these are the millimetres meant.
-use Rattle.std.specs.Prelude.{ℕ, ◌+◌, ◌-◌, ◌*◌, ◌/◌, ◌%◌, ◌^◌, Bool, false, cond, ◌&&◌, ◌||◌, ltb, leb, eqb, pos, Float, Result, Ok, Err}
+use Rattle.std.specs.Prelude.{ℕ, ◌+◌, ◌-◌, ◌*◌, ◌/◌, ◌%◌, ◌^◌}
+use Rattle.std.specs.Prelude.{Bool, false, cond, ◌&&◌, ◌||◌, ltb, leb, eqb, pos, Float, Result, Ok, Err}
 use Rattle.std.specs.Float.{fin, binary32}
 use Rattle.std.specs.Float.Ieee.{lt, is_nan, to_bits}
 use Rattle.coding.specs.Key.{distances}

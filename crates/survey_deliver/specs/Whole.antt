@@ -1,6 +1,7 @@
 -- A list served over the program's new store. Its answers are one, wherever runs stop; they are made piece by piece, and each piece is settled by how
 -- many requests were served before it.
-use Rattle.std.specs.Prelude.{ℕ, zero, suc, ◌+◌, ◌*◌, ◌≤◌, ◌<◌, ◌≡◌, List, [], ◌∷◌, Bool, true, false, cond, length, take, drop}
+use Rattle.std.specs.Prelude.{ℕ, zero, suc, ◌+◌, ◌*◌, ◌≤◌, ◌<◌, ◌≡◌}
+use Rattle.std.specs.Prelude.{List, [], ◌∷◌, Bool, true, false, cond, length, take, drop}
 use Rattle.std.proofs.lemmas.List.Edits.{sets}
 use Rattle.table.specs.Limits.{place_size}
 use Rattle.table.specs.Table.{zeros}

@@ -48,7 +48,8 @@ fn hand_on<W: Write>(out: &mut W, list: &[u8], written: usize, piece: &[u8]) -> 
 // Runs a list over a new store, and after each stop the rest of it over the same store; hands on the answers of each run to a writer.
 // A writer whose bytes are known, as one to memory, has grown by the answers of the list, no more and no less, unless writing failed. Of others no
 // contract can say, so it is read off the loop: each piece made is given to `hand_on`, once and before the next is made, and it ends with
-// `NotWritten` just where `hand_on` failed. All else is settled: what each piece is, that only the next one is handed on, where the loop can stop, and what is left.
+// `NotWritten` just where `hand_on` failed. All else is settled: what each piece is, that only the next one is handed on, where the loop can
+// stop, and what is left.
 pub fn deliver<W: Write>(
     out: &mut W,
     area: &mut [u8],
