@@ -27,9 +27,26 @@ use Rattle.book.specs.Level.{index_from, index_of, spliced}
 
 -- ---- replacing
 
+-- Items moved to the right to make room, and the new ones laid there.
+pub laid : (items part moved after : List ℕ) (n i : ℕ) → 1 ≤ length items
+    → moved ≡ sets part (i + 1 + (length items - 1)) (drop (i + 1) (take n part)) → after ≡ sets moved i items
+    → after ≡ spliced i n items part
+unfolding spliced zeros
+laid items part moved after n i h m a =
+    let k : i + 1 + (length items - 1) ≡ i + length items = omega arith in
+    let none : 1 - length items ≡ 0 = omega arith in
+    let back : List ℕ = drop (suc i) (take n part) in
+    let room : moved ≡ sets part (i + length items) back = m ∙ rw (k, add-one i) in
+    rw (none, append-nil back, a, room)
+    (sym (sets-append part i items back ∙ sets-comm part i items (i + length items) back (omega arith)))
+
 no_items : (xs : List ℕ) → length xs ≡ 0 → xs ≡ []
 no_items [] h = refl
 no_items (x ∷ xs) h = absurd (omega arith)
+
+-- Replaced by none is taken out.
+pub taken_out : (items part : List ℕ) (n i : ℕ) → length items ≡ 0 → spliced i n [] part ≡ spliced i n items part
+taken_out items part n i h = ap (λ xs. spliced i n xs part) (sym (no_items items h))
 
 -- Items copied within their part, from a position on up to the n-th, are a run.
 moved_is : (part : List ℕ) (n from to : ℕ) → n ≤ length part → from ≤ n → to + (n - from) ≤ length part
@@ -53,17 +70,15 @@ module _ (items part moved new : List ℕ) (n i : ℕ) (within : i < n) (fits : 
       let long : length moved ≡ length part = ap length run ∙ length-sets part (i + length items) (drop (suc i) (take n part)) in
       rw (k, e) (sets-back moved i (length items) items (omega arith) refl)
 
-  pub laid : (length items ≡ 0 → ⊥) → put_mid i (i + length items - i) moved new ≡ spliced i n items part
-  unfolding spliced zeros
-  laid some =
-      let none : 1 - length items ≡ 0 = omega arith in
-      let back : List ℕ = drop (suc i) (take n part) in
-      both ∙ rw (none, append-nil back, run) (sym (sets-append part i items back ∙ sets-comm part i items (i + length items) back (omega arith)))
+  pub laid-over : (length items ≡ 0 → ⊥) → put_mid i (i + length items - i) moved new ≡ spliced i n items part
+  laid-over some =
+      let k : i + 1 + (length items - 1) ≡ i + length items = omega arith in
+      laid items part moved (put_mid i (i + length items - i) moved new) n i (omega arith) (rw (k, add-one i) run) both
 
   -- By none: the last becomes zero.
-  pub taken_out : length items ≡ 0 → set (put_mid i (i + length items - i) moved new) (n - 1) 0 ≡ spliced i n items part
+  pub closed-up : length items ≡ 0 → set (put_mid i (i + length items - i) moved new) (n - 1) 0 ≡ spliced i n items part
   unfolding spliced zeros
-  taken_out h =
+  closed-up h =
       let none : items ≡ [] = no_items items h in
       let back : List ℕ = drop (suc i) (take n part) in
       let long : length back ≡ n - suc i = length-drop (suc i) (take n part) ∙ ap (λ (k : ℕ). k - suc i) (length-take-le n part fits) in

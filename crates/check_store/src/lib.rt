@@ -149,6 +149,8 @@ pub fn check(
     if !sizes::sizes(area.len(), cards.len(), lists.len()) {
         return Err(Refusal::WrongSizes);
     }
-    first_of_all(area, cards, lists, head, memory)?;
-    Ok(())
+    match first_of_all(area, cards, lists, head, memory) {
+        Ok(()) => Ok(()),
+        Err(rule) => Err(Refusal::Unsound(rule)),
+    }
 }

@@ -77,7 +77,7 @@ part-item items i k = rw (part-all items i) (get_or-drop i items k 0)
 -- ---- in lent pieces
 
 module _ (p f : ℕ) (cards : List (List ℕ)) (items : List ℕ) where
-  held-turn : (j : ℕ) → j < length items
+  pub held-turn : (j : ℕ) → j < length items
       → held_among p f cards (drop j items)
       ≡ ((not (eqb (get_or items j 0) p) && row_names f (get_or cards (get_or items j 0) [])) || held_among p f cards (drop (j + 1) items))
   unfolding held_among
@@ -131,7 +131,7 @@ module _ (area : List ℕ) (cards : List (List ℕ)) (items : List ℕ) (p f : �
       ∙ any-front (shown_by area cards) (least_key (entries (place_of area f))) test items (λ q h. so.reaches q (named-test q h))
 
   -- Behind a table with a least key above all keys of the place none does.
-  held-stop : Bytes area → (j : ℕ) → j < length items
+  pub held-stop : Bytes area → (j : ℕ) → j < length items
       → greatest_key (entries (place_of area f)) < least_key (entries (place_of area (get_or items j 0)))
       → held_among p f cards (drop (j + 1) items) ≡ false
   unfolding held_among

@@ -31,13 +31,13 @@ module _ (s : List ℕ) (from : ℕ) where
   unfolding shown
   seek-spent h = spent-of from (entries s) (sym (shown-seek s from) ∙ ap (shown s) h)
 
-  seek-next : (at key lo hi : ℕ) → Keys lo hi (entries s) → seek_in s from ≡ code.Some at → key ≡ key_at s at → Next from key (entries s)
+  pub seek-next : (at key lo hi : ℕ) → Keys lo hi (entries s) → seek_in s from ≡ code.Some at → key ≡ key_at s at → Next from key (entries s)
   unfolding shown
   seek-next at key lo hi h f k =
       rw (k ∙ sym (entry_at-key s at)) (next_of from lo hi (entries s) (entry_at s at) h (sym (shown-seek s from) ∙ ap (shown s) f))
 
 -- What is found from a point on is a key.
-next-bound : (from k lo hi : ℕ) (es : List Entry) → Keys lo hi es → Next from k es → k < hi
+pub next-bound : (from k lo hi : ℕ) (es : List Entry) → Keys lo hi es → Next from k es → k < hi
 next-bound from k lo hi es h n = omega (arith, n.holds.1.1, (keys-member lo hi es n.holds.0 h n.holds.1.0).1)
 
 -- The items from one on, as the code takes them.
@@ -104,7 +104,7 @@ module _ (area : List ℕ) (cards cards' : List (List ℕ)) (qs : List ℕ) (es 
       (end-room (shown_by area cards) from qs at (all-readable area cards qs bytes b.legible b.rising) b.spans (omega (arith, few)))
 
 -- A turn over the tables from one on.
-turned : (area : List ℕ) (cards cards' : List (List ℕ)) (items part : List ℕ) (es : List Entry) (p from first k at high : ℕ) → Bytes area
+pub turned : (area : List ℕ) (cards cards' : List (List ℕ)) (items part : List ℕ) (es : List Entry) (p from first k at high : ℕ) → Bytes area
     → part ≡ drop first items → first < length items → Hosts area cards from (drop first items) → Tabled area p → Next from k es → k ≤ greatest
     → at ≡ keeper (shown_by area cards) k part → high ≡ high_of (shown_by area cards) part at
     → cards' ≡ hung_row es (slice_at (shown_by area cards) p from part at) cards

@@ -1,10 +1,10 @@
--- Filling a table: there is room for one entry more, and it goes behind the last.
+-- Filling a table: there is room for one entry more, and it goes behind the last; the end, where nothing is left.
 use Prim.Native.Nat.{ℕ, ◌+◌, ◌*◌, ◌≤◌, ◌<◌}
-use mathlib.Core.Path.{◌≡◌, ◌∙◌}
+use mathlib.Core.Path.{◌≡◌, sym, ◌∙◌, ap}
 use mathlib.Core.List.{List}
 use native.Mathlib.Omega.{arith}
 use lib.ListN.{length, take, drop, get_or, length-drop}
-use lib.Seq.{length-take-le}
+use lib.Seq.{take_all, length-take-le}
 use Rattle.table.specs.Limits.{entry_limit, table_head, table_limit}
 use Rattle.table.specs.Entry.{Entry, entry_at}
 use Rattle.table.specs.Table.{RoomFor, table_length, table_bytes, appended}
@@ -52,3 +52,9 @@ module _ (bytes spots : List ℕ) (n from i : ℕ) (s : Stand bytes spots n) (in
         let short = entry-short bytes spot seat.form seat.room in
         a ∙ rw (e, w, spot-more bytes spots n s from i h)
         (append-encode (take i left) (entry_at bytes spot) (omega (arith, slim, short)) (omega (arith, many)))
+
+    -- Nothing is left.
+    pub fill_done : i ≤ table_limit → n ≤ from + i → to ≡ table_bytes (take table_limit left)
+    fill_done few h =
+        let short : length left ≤ i = omega (arith, length-drop from (standing bytes spots n), standing-long bytes spots n s) in
+        w ∙ ap table_bytes (take_all i left short ∙ sym (take_all table_limit left (omega arith)))

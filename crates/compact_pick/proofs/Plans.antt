@@ -86,7 +86,7 @@ module _ (s : Store) where
   unfolding plan_of
   plan-due n p e = rw e
 
-  plan-level : due_table s ≡ none → plan_of s ≡ level_plan s (overfull s)
+  pub plan-level : due_table s ≡ none → plan_of s ≡ level_plan s (overfull s)
   unfolding plan_of
   plan-level e = rw e
 

@@ -1,6 +1,6 @@
 -- Links' numbers against a table's entry count: one turn of the walk that takes them off it, and the cases of a due table.
-use Prim.Native.Nat.{ℕ, suc, ◌+◌, ◌-◌, ◌≤◌, ◌<◌}
-use mathlib.Core.Path.{◌≡◌, refl, ◌∙◌, ap}
+use Prim.Native.Nat.{ℕ, zero, suc, ◌+◌, ◌-◌, ◌≤◌, ◌<◌}
+use mathlib.Core.Path.{◌≡◌, refl, sym, ◌∙◌, ap}
 use mathlib.Core.List.{List, [], ◌∷◌}
 use mathlib.Core.Bool.{true, false}
 use native.Mathlib.Omega.{arith}
@@ -24,6 +24,11 @@ taken-off left number rest h =
     cases (leb (left - number) rest)
     (λ q. let l : left - number ≤ rest = leb-true (left - number) rest q in rw q (le-leb left (number + rest) (omega arith)))
     (λ q. let l : rest < left - number = leb-false (left - number) rest q in rw q (lt-leb left (number + rest) (omega arith)))
+
+-- At nought nothing more has to be taken off.
+pub nothing_left : (left : ℕ) → leb left 0 ≡ eqb left 0
+nothing_left zero = refl
+nothing_left (suc n) = lt-leb (suc n) 0 (omega arith) ∙ sym (ne_eqb (suc n) 0 (λ e. omega arith))
 
 module _ (row : List ℕ) (j : ℕ) (left : ℕ) where
   weight-cons : j < length (links_in row) → weight (drop j (links_in row)) ≡ (link_at row j).number + weight (drop (j + 1) (links_in row))

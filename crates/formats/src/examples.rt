@@ -13,7 +13,7 @@ use table_builder::{append, place};
 pub fn key() -> u64
     ensures { result ≡ 3 * 2 ^ 40 + 1250 }
 {
-    Key::on(3, 1250).value
+    Key::of(3, 1250).unwrap().value
 }
 
 // The value "A" under key 5.

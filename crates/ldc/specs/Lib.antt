@@ -12,7 +12,7 @@
 --   Tidy       which step is due: due merge, level, choice, ranges; the step is named here
 --   Steps      the named step is done: move, link, merge
 --   Serve      serving one request
---   Run        splitting a list, serving it, run, check and make, with numbers 1 to 5 by name
+--   Run        splitting a list, serving it, run, check and make, with numbers 1 to 5, 21 and 22 by name
 --   History    histories, the latest-write map, the slice list, where a history starts, and `Demand3`
 --   Facts      rising spans, a table to be merged or taken down, the sizes of the lent pieces: what contracts of the code name
 --   Examples   P1 to P10, examples of notes 2 and 5, a case for each slip, and the letters of damaged memory

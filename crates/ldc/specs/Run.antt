@@ -31,6 +31,14 @@ broken_list = 4
 abbrev pub unsound : ℕ
 unsound = 5
 
+-- Opening (document 02, note 4): bytes not of the form of a saved book.
+abbrev pub not_a_book : ℕ
+not_a_book = 21
+
+-- Opening: an area with fewer places than saved.
+abbrev pub fewer_places : ℕ
+fewer_places = 22
+
 -- ---- splitting a list
 
 -- The longest list, in bytes.

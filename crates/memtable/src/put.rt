@@ -42,7 +42,7 @@ pub fn put(memory: &mut [u8], kind: u16, key: Key, value: &[u8]) -> u16
     if held | (search::count(memory) < limits::TABLE_LIMIT) {
         let mut fresh = [0u8; limits::PLACE_SIZE];
         build_with(&mut fresh, memory, held, kind, key, value);
-        memory.copy_from_slice(&fresh);
+        place::copy(memory, 0, &fresh);
         results::DONE
     } else {
         results::MEMORY_FULL

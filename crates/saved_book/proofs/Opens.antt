@@ -18,7 +18,7 @@ use Rattle.ldc.specs.Store.{Store, free, size, card, is_free, bytes_at}
 use Rattle.ldc.specs.Layout.{level_count, row_with, rows_of}
 use Rattle.ldc.specs.Lent.{Lent, places_in, chop, sizes_good, level_of, store_of, lent_of, broken}
 use Rattle.ldc.specs.Facts.{Shape}
-use Rattle.ldc.specs.Run.{accepted, wrong_sizes, unsound}
+use Rattle.ldc.specs.Run.{accepted, wrong_sizes, unsound, not_a_book, fewer_places}
 use Rattle.ldc.proofs.Basics.ListLaws.{Each, empty-list, length-parts, each_part, flat-parts}
 use Rattle.ldc.proofs.Lent.Round.{chop-parts, level-lent_of}
 use Rattle.ldc.proofs.Lent.Rules.{kept-lent_of}
@@ -28,7 +28,7 @@ use Rattle.ldc.proofs.Stores.Sound.{Sound, Whole}
 use Rattle.saved_book.specs.Saved.{saved_bytes}
 use Rattle.saved_book.specs.Form.{places_saved, saved_form}
 use Rattle.saved_book.specs.Opened.{opened_over, grown_over}
-use Rattle.saved_book.specs.Calls.{not_a_book, fewer_places, Opening, opening, open_book}
+use Rattle.saved_book.specs.Calls.{Opening, opening, open_book}
 use Rattle.saved_book.proofs.Summed.{rows_grown}
 use Rattle.saved_book.proofs.Decode.{saved-form, saved-places, saved-opened}
 use Rattle.saved_book.proofs.Grows.{Holding, grown-level, grown-sound, grown-whole}

@@ -5,20 +5,10 @@ use Rattle.table.specs.Limits.{table_limit, entry_limit}
 use Rattle.ldc.specs.Lists.{is_empty}
 use Rattle.ldc.specs.Layout.{level_count, link_limit}
 use Rattle.ldc.specs.Lent.{Lent, places_in, sizes_good, store_of, broken}
-use Rattle.ldc.specs.Run.{accepted, wrong_sizes, short_answer, unsound}
+use Rattle.ldc.specs.Run.{accepted, wrong_sizes, short_answer, unsound, not_a_book, fewer_places}
 use Rattle.saved_book.specs.Saved.{saved_bytes}
 use Rattle.saved_book.specs.Form.{places_saved, cards_start, card_head, link_width, saved_form}
 use Rattle.saved_book.specs.Opened.{opened_over}
-
--- ---- the numbers, each said once
-
--- Open: bytes not of the form of a saved book.
-abbrev pub not_a_book : ℕ
-not_a_book = 21
-
--- Open: an area with fewer places than saved.
-abbrev pub fewer_places : ℕ
-fewer_places = 22
 
 -- ---- save
 

@@ -1,11 +1,11 @@
 -- The loop over rows that writes summaries: what is left to write is this row's and those behind it. Also the ways out of one row.
-use Prim.Native.Nat.{ℕ, suc, ◌+◌, ◌*◌, ◌<◌}
+use Prim.Native.Nat.{ℕ, suc, ◌+◌, ◌*◌, ◌≤◌, ◌<◌}
 use mathlib.Core.Path.{◌≡◌, refl, sym, ◌∙◌, ap}
 use mathlib.Core.Bool.{true, false}
 use mathlib.Core.List.{List, [], ◌∷◌}
 use native.Mathlib.Omega.{arith}
 use native.Mathlib.Numerals.{add-one}
-use lib.ListN.{length, get_or, set, drop}
+use lib.ListN.{length, get_or, set, drop, drop_of_length-le}
 use lib.Seq.{sets, drop-cons, drop-set-lt}
 use Rattle.coding.proofs.Sets.{sets-all}
 use Rattle.table.specs.Limits.{place_size}
@@ -65,3 +65,6 @@ pub sum-turn : (rows places : List (List ℕ)) (p : ℕ) (words : List ℕ) → 
 unfolding summed
 sum-turn rows places p words h k e =
     rw (add-one p, drop-set-lt (suc p) rows p _ (omega arith), drop-cons rows p [] h, drop-cons places p [] k, e)
+
+pub sum_done : (rows places : List (List ℕ)) (p : ℕ) → length rows ≤ p → sets rows p (summed_rows (drop p rows) (drop p places)) ≡ rows
+sum_done rows places p h = rw (drop_of_length-le rows {i = p} h)

@@ -13,12 +13,12 @@ use Rattle.table.proofs.Tests.{and_parts}
 use Rattle.ldc.specs.Lists.{is_empty}
 use Rattle.ldc.specs.Layout.{level_count, most_places}
 use Rattle.ldc.specs.Lent.{Lent, places_in, chop, sizes_good, broken}
-use Rattle.ldc.specs.Run.{accepted, wrong_sizes, unsound, check, letter_of}
+use Rattle.ldc.specs.Run.{accepted, wrong_sizes, unsound, not_a_book, fewer_places, check, letter_of}
 use Rattle.ldc.proofs.Basics.Cases.{cases}
 use Rattle.saved_book.specs.Form.{places_saved, saved_form, lists_start, memory_start}
 use Rattle.saved_book.specs.Opened.{opened_rows, opened_lists, opened_head, opened_memory, opened_over, summed_rows}
 use Rattle.saved_book.proofs.Opens.{accepts}
-use Rattle.saved_book.specs.Calls.{not_a_book, fewer_places, Opening, opening, open_book, open_with, working_after}
+use Rattle.saved_book.specs.Calls.{Opening, opening, open_book, open_with, working_after}
 use Rattle.book.specs.Pieces.{lent}
 use Rattle.book.specs.Rows.{Sized}
 use Rattle.check_store.specs.Answer.{Answers}

@@ -18,9 +18,12 @@ wide h = omega arith
 pub in_place : (k n : ℕ) → k ≤ place_size → n ≡ place_size → k ≤ n
 in_place k n h e = omega arith
 
--- An index below a bound: the next one fits as the bound does.
+-- An index below a bound: the next one fits as the bound does, and fewer are left from there.
 pub one_more : (i n : ℕ) → i < n → n < 2 ^ 64 → Fits w64 (i + 1)
 one_more i n h f = omega arith
+
+pub one_less : (i n : ℕ) → i < n → n - (i + 1) < n - i
+one_less i n h = omega arith
 
 pub none_left : (i n : ℕ) → n ≤ i → n - i ≡ 0
 none_left i n h = omega arith

@@ -37,5 +37,5 @@ pub fn write_place(area: &mut [u8], start: usize, table: &[u8])
     requires { (start + place_size ≤ length area.old) × (length table.now ≡ place_size) }
     ensures { area.new ≡ sets area.old start table.now }
 {
-    copy(area, start, table);
+    copy(&mut area[start..start + limits::PLACE_SIZE], 0, table);
 }

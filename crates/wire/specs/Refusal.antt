@@ -1,7 +1,7 @@
 -- Why a call is refused, and the number and the letter that it then has. A call that is accepted has number 0 and no letter.
 use Rattle.std.specs.Prelude.{ℕ, Result, Ok, Err}
 use Rattle.ldc.specs.Lent.{letter_a, letter_b, letter_c, letter_d, letter_e, letter_f, letter_g}
-use Rattle.ldc.specs.Run.{accepted, wrong_sizes, bad_threshold, short_answer, broken_list, unsound}
+use Rattle.ldc.specs.Run.{accepted, wrong_sizes, bad_threshold, short_answer, broken_list, unsound, not_a_book, fewer_places}
 use Rattle.wire.specs.declared.refusal.Rule.{Rule}
 use Rattle.wire.specs.declared.refusal.Rule.TheVariants.{A, B, C, D, E, F, G}
 use Rattle.wire.specs.declared.refusal.Refusal.{Refusal}
@@ -17,15 +17,15 @@ rule_letter E = letter_e
 rule_letter F = letter_f
 rule_letter G = letter_g
 
--- The number of a refusal. Those of opening are 21 and 22 (document 02, note 4).
+-- The number of a refusal.
 abbrev pub refusal_number : Refusal → ℕ
 refusal_number WrongSizes = wrong_sizes
 refusal_number BadThreshold = bad_threshold
 refusal_number ShortAnswer = short_answer
 refusal_number BrokenList = broken_list
 refusal_number (Unsound rule) = unsound
-refusal_number NotABook = 21
-refusal_number FewerPlaces = 22
+refusal_number NotABook = not_a_book
+refusal_number FewerPlaces = fewer_places
 
 -- The letter that comes with it.
 abbrev pub refusal_letter : Refusal → ℕ
