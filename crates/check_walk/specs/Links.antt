@@ -1,5 +1,6 @@
 -- Links that are apart, and marks of the places that they name, as they are walked.
-use Rattle.std.specs.Prelude.{ℕ, zero, suc, ◌*◌, ◌≤◌, ◌<◌, ◌≡◌, List, [], ◌∷◌, map, Bool, true, not, ◌&&◌, ◌||◌, ltb, eqb, length, get_or, set}
+use Rattle.std.specs.Prelude.{ℕ, zero, suc, ◌*◌, ◌≤◌, ◌<◌, ◌≡◌, Bool, true, not, ◌&&◌, ◌||◌, ltb, eqb}
+use Rattle.std.specs.Prelude.{List, [], ◌∷◌, map, length, get_or, set}
 use Rattle.table.specs.Table.{entries, is_table, place_of}
 use Rattle.table.specs.Search.{greatest_key}
 use Rattle.ldc.specs.Lists.{all, flat}

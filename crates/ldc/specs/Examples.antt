@@ -1,7 +1,8 @@
 -- The checked examples P1 to P10 of document 01, and those of notes 2 and 5 of document 02, as one table: what the definition computes beside
 -- what the papers say; a second table with a case for each slip, and a third with the letters of damaged memory.
 -- `proofs/Demand/Examples` shows that each row agrees. What is expected stands in plain numbers, as in document 01.
-use Rattle.std.specs.Prelude.{ℕ, zero, suc, ◌+◌, ◌-◌, ◌%◌, List, [], ◌∷◌, ◌++◌, map, Bool, true, cond, ◌&&◌, length, get_or, take, replicate}
+use Rattle.std.specs.Prelude.{ℕ, zero, suc, ◌+◌, ◌-◌, ◌%◌, Bool, true, cond, ◌&&◌}
+use Rattle.std.specs.Prelude.{List, [], ◌∷◌, ◌++◌, map, length, get_or, take, replicate}
 use Rattle.std.proofs.Math.Option
 use Rattle.std.proofs.Math.Option.{some, none}
 use Rattle.coding.specs.Number.{bytes_of}
@@ -139,7 +140,8 @@ moved_p6 = from (new 4) (ask_put 1 ∷ ask_flush ∷ ask_put 2 ∷ ask_flush ∷
 abbrev weighing : Store
 weighing =
     planted_with 8
-    (table_of (10 ∷ 20 ∷ 30 ∷ []) ∷ table_of (15 ∷ []) ∷ table_of (16 ∷ 25 ∷ []) ∷ table_of (40 ∷ []) ∷ table_of (50 ∷ []) ∷ [])
+    (table_of (10 ∷ 20 ∷ 30 ∷ []) ∷ table_of (15 ∷ []) ∷ table_of (16 ∷ 25 ∷ [])
+    ∷ table_of (40 ∷ []) ∷ table_of (50 ∷ []) ∷ [])
     (replicate 5 (live []))
     ((1 ∷ 2 ∷ 3 ∷ 4 ∷ []) ∷ (0 ∷ []) ∷ [] ∷ [] ∷ [])
 
@@ -217,7 +219,8 @@ slips =
     -- a newer level 0 table goes down before an older one
     record {
       computed = reply (from (new 4)
-          (ask_put_byte 1 65 ∷ ask_flush ∷ ask_put_byte 1 66 ∷ ask_flush ∷ ask_put_byte 1 67 ∷ ask_flush ∷ ask_tidy ∷ ask_look_up 1 ∷ []));
+          (ask_put_byte 1 65 ∷ ask_flush ∷ ask_put_byte 1 66 ∷ ask_flush ∷ ask_put_byte 1 67 ∷ ask_flush
+          ∷ ask_tidy ∷ ask_look_up 1 ∷ []));
       expected = 0 ∷ 67 ∷ [];
     }
     -- delete marks dropped above level 3: the mark on level 2 hides the value on level 3
@@ -261,7 +264,8 @@ slips =
 -- Of a store with these bytes for its memory table: the number that a check gives, the letter, and the letters of all broken rules.
 abbrev checked : Store → (memory : List ℕ) → List ℕ
 checked s memory =
-    let m : Lent = record { area = (lent_of s).area; cards = (lent_of s).cards; lists = (lent_of s).lists; head = (lent_of s).head; memory = memory } in
+    let m : Lent =
+    record { area = (lent_of s).area; cards = (lent_of s).cards; lists = (lent_of s).lists; head = (lent_of s).head; memory = memory } in
     check m ∷ letter_of m (check m) ∷ broken m
 
 -- Place 0 is live on level 0, with a table that has no entry.

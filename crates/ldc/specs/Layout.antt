@@ -1,6 +1,7 @@
 -- The layout of the book in lent memory (docs/DECISIONS.md, 1): a card in its row of words, the ten words of the head, a level's list
 -- in its part of the lists. Which word means what is said here and nowhere else. Any numbers at all may be lent, so everything is total.
-use Rattle.std.specs.Prelude.{ℕ, zero, suc, ◌+◌, ◌*◌, ◌-◌, min, List, [], ◌∷◌, ◌++◌, Bool, cond, ◌&&◌, ◌||◌, eqb, length, get_or, take, drop}
+use Rattle.std.specs.Prelude.{ℕ, zero, suc, ◌+◌, ◌*◌, ◌-◌, min, Bool, cond, ◌&&◌, ◌||◌, eqb}
+use Rattle.std.specs.Prelude.{List, [], ◌∷◌, ◌++◌, length, get_or, take, drop}
 use Rattle.std.proofs.Math.Option.{Option, some, none}
 use Rattle.table.specs.Table.{zeros, entries}
 use Rattle.summary.specs.Summary.{summary_words, summary_of, keys_of, words_of}

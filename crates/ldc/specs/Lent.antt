@@ -1,6 +1,7 @@
 -- The lent memory (docs/DECISIONS.md, 1 to 8): the bytes and numbers of a store, the store that they show, and the rules that they break.
 -- Any numbers at all may be lent, so everything here is total.
-use Rattle.std.specs.Prelude.{ℕ, zero, suc, ◌*◌, ◌/◌, ◌%◌, ◌-◌, List, [], ◌∷◌, ◌++◌, map, Bool, cond, not, ◌&&◌, ◌||◌, leb, eqb, length, get_or, take, drop}
+use Rattle.std.specs.Prelude.{ℕ, zero, suc, ◌*◌, ◌/◌, ◌%◌, ◌-◌, Bool, cond, not, ◌&&◌, ◌||◌, leb, eqb}
+use Rattle.std.specs.Prelude.{List, [], ◌∷◌, ◌++◌, map, length, get_or, take, drop}
 use Rattle.table.specs.Limits.{place_size}
 use Rattle.table.specs.Table.{entries, table_bytes, is_memory, all_zero, zeros}
 use Rattle.ldc.specs.Lists.{all, flat, all_from}

@@ -1,5 +1,6 @@
--- Making a store, checking one, and running a list of requests over lent memory, with refusals 1 to 5.
-use Rattle.std.specs.Prelude.{ℕ, zero, suc, ◌+◌, ◌-◌, List, [], ◌∷◌, ◌++◌, Bool, cond, ◌&&◌, leb, ltb, eqb, length, take, drop}
+-- Making a store, checking one, and running a list of requests over lent memory, with refusals 1 to 5. The numbers of opening stand with them.
+use Rattle.std.specs.Prelude.{ℕ, zero, suc, ◌+◌, ◌-◌, Bool, cond, ◌&&◌, leb, ltb, eqb}
+use Rattle.std.specs.Prelude.{List, [], ◌∷◌, ◌++◌, length, take, drop}
 use Rattle.std.proofs.Math.Option.{Option, some, none, map}
 use Rattle.std.proofs.lemmas.List.Edits.{sets}
 use Rattle.table.specs.Entry.{length_at, kind_at}

@@ -1,5 +1,6 @@
 -- The store (document 01, "Lent memory"): places with their cards, the level lists, threshold, cursor, marks and the memory table.
-use Rattle.std.specs.Prelude.{ℕ, zero, suc, min, max, List, [], ◌∷◌, ◌++◌, map, reverse, Bool, true, false, ◌&&◌, leb, length, get_or, set}
+use Rattle.std.specs.Prelude.{ℕ, zero, suc, min, max, Bool, true, false, ◌&&◌, leb}
+use Rattle.std.specs.Prelude.{List, [], ◌∷◌, ◌++◌, map, reverse, length, get_or, set}
 use Rattle.std.proofs.Math.Option.{Option, none}
 use Rattle.table.specs.Entry.{Entry}
 use Rattle.table.specs.Table.{entries}

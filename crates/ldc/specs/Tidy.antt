@@ -1,5 +1,6 @@
 -- Tidy: what step is due. It is named first and done afterwards (`Step`); reply, store and slice list come from that one name.
-use Rattle.std.specs.Prelude.{ℕ, zero, suc, ◌+◌, ◌*◌, ◌^◌, ◌-◌, List, [], ◌∷◌, ◌++◌, map, Bool, cond, not, ◌||◌, leb, ltb, length, get_or, take, drop}
+use Rattle.std.specs.Prelude.{ℕ, zero, suc, ◌+◌, ◌*◌, ◌^◌, ◌-◌, Bool, cond, not, ◌||◌, leb, ltb}
+use Rattle.std.specs.Prelude.{List, [], ◌∷◌, ◌++◌, map, length, get_or, take, drop}
 use Rattle.std.proofs.Math.Option.{Option, some, none}
 use Rattle.table.specs.Limits.{table_limit}
 use Rattle.table.specs.Entry.{Entry}

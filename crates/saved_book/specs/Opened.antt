@@ -73,7 +73,8 @@ opened_lists places s = flat (map (λ ps. ps ++ zeros (places - length ps)) (lev
 
 unfoldable pub opened_head : List ℕ → List ℕ
 opened_head s =
-    threshold_saved s ∷ cursor_saved s ∷ flag_saved1 s ∷ key_saved1 s ∷ flag_saved2 s ∷ key_saved2 s ∷ map (λ ps. length ps) (levels_saved s)
+    threshold_saved s ∷ cursor_saved s ∷ flag_saved1 s ∷ key_saved1 s ∷ flag_saved2 s ∷ key_saved2 s
+    ∷ map (λ ps. length ps) (levels_saved s)
 
 unfoldable pub opened_memory : List ℕ → List ℕ
 opened_memory s = table_bytes (entries_at (number_at 2 s (memory_start s)) s (memory_start s + 2))

@@ -53,7 +53,8 @@ pub fn words_of(s: &Summary) -> Words
 
 // The bytes of four words, which give these words again.
 pub fn bytes_of(first: u64, second: u64, third: u64, fourth: u64) -> Summary
-    ensures { (result ≡ bytes_in (first ∷ second ∷ third ∷ fourth ∷ [])) × (words_of result ≡ first ∷ second ∷ third ∷ fourth ∷ []) }
+    ensures { (result ≡ bytes_in (first ∷ second ∷ third ∷ fourth ∷ []))
+        × (words_of result ≡ first ∷ second ∷ third ∷ fourth ∷ []) }
 {
     let mut s: Summary = [0; SUMMARY_BYTES];
     let all = &mut s[..];

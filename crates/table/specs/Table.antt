@@ -1,6 +1,7 @@
 -- A table (document 01): length in use (2 bytes), kind 32 (2), entry count (2), zero (2), then the entries, keys strictly rising.
 -- The rest of the place is zero. The memory table has the same form, and may be empty.
-use Rattle.std.specs.Prelude.{ℕ, zero, suc, ◌+◌, ◌-◌, ◌≤◌, ◌<◌, ◌*◌, List, [], ◌∷◌, ◌++◌, ◌≡◌, Bool, true, ◌&&◌, leb, eqb, length, take, drop}
+use Rattle.std.specs.Prelude.{ℕ, zero, suc, ◌+◌, ◌-◌, ◌≤◌, ◌<◌, ◌*◌, ◌≡◌, Bool, true, ◌&&◌, leb, eqb}
+use Rattle.std.specs.Prelude.{List, [], ◌∷◌, ◌++◌, length, take, drop}
 use Rattle.std.proofs.lemmas.List.Edits.{sets}
 use Rattle.coding.specs.Number.{number_at, bytes_of}
 use Rattle.table.specs.Limits.{entry_head, entry_limit, table_head, table_limit, place_size}
